@@ -1,0 +1,15 @@
+#!/usr/bin/env bash
+# Times oxt beside oxt_floor, which only reads and writes the same JSON, on made trees.
+# bench/run.sh [RUNS]; both programs are proved and built first.
+set -euo pipefail
+cd "$(dirname "$0")/.."
+
+for program in oxt oxt_floor; do
+    (cd "crates/$program" && rt run < ../../examples/const_number.json > /dev/null 2>&1)
+done
+
+trees=$(mktemp -d)
+trap 'rm -r "$trees"' EXIT
+sizes="10000 1500000 15000000"
+python3 bench/make_trees.py "$trees" $sizes
+python3 bench/times.py "${1:-9}" "$trees" $sizes

@@ -1,0 +1,57 @@
+#!/usr/bin/env python3
+"""Times programs on trees: times.py RUNS FOLDER SIZE.. , on crates/oxt and crates/oxt_floor in turn.
+
+Prints the processor time in milliseconds, best and median, and the most memory, of each; for a small
+tree the memory is that of this script, from which the programs are started.
+"""
+import os
+import statistics
+import subprocess
+import sys
+
+PROGRAMS = ("oxt_floor", "oxt")
+
+
+def run(program, path):
+    """The milliseconds of processor time and the megabytes of one run."""
+    with open(path, "rb") as source:
+        child = subprocess.Popen([f"crates/{program}/out/{program}"], stdin=source, stdout=subprocess.DEVNULL)
+        _, status, usage = os.wait4(child.pid, 0)
+    if status != 0:
+        sys.exit(f"{program} failed on {path}")
+    return (usage.ru_utime + usage.ru_stime) * 1000, usage.ru_maxrss / 1024
+
+
+def measure(path, runs):
+    """The best time of each program on a tree, whose runs take turns."""
+    seen = {program: [] for program in PROGRAMS}
+    for _ in range(runs):
+        for program in PROGRAMS:
+            seen[program].append(run(program, path))
+    best = {}
+    for program in PROGRAMS:
+        times = [time for time, _ in seen[program]]
+        best[program] = min(times)
+        memory = max(megabytes for _, megabytes in seen[program])
+        print(f"  {program:9} best {min(times):8.1f} ms  median {statistics.median(times):8.1f} ms  memory {memory:6.1f} MB")
+    return best
+
+
+def main():
+    runs, folder, *sizes = sys.argv[1:]
+    earlier = {}
+    for size in sizes:
+        path = f"{folder}/{size}.json"
+        with open(path) as file:
+            nodes = file.read().count('"type":')
+        print(f"{os.path.getsize(path):,} bytes, {nodes:,} nodes")
+        best = measure(path, int(runs))
+        print(f"  oxt takes {best['oxt'] / best['oxt_floor']:.2f} times the floor")
+        if earlier:
+            grown = nodes / earlier["nodes"]
+            factor = best["oxt"] / earlier["oxt"]
+            print(f"  {grown:.2f} times the nodes take {factor:.2f} times the time")
+        earlier = {"nodes": nodes, **best}
+
+
+main()

@@ -1,0 +1,4 @@
+pub mod Erased
+pub mod Forms
+pub mod Unbuilt
+pub mod UnbuiltKinds

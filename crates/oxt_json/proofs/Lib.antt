@@ -1,0 +1,4 @@
+mod Members
+mod Loops
+mod Spelled
+mod WordsFound

@@ -1,0 +1,7 @@
+pub mod Answer
+pub mod Faults
+pub mod Heads
+pub mod Leaves
+pub mod Misreads
+pub mod Reading
+pub mod Spelling

@@ -1,0 +1,97 @@
+//! Bytes to a tree.
+ghost use Rattle.std.specs.Prelude.{◌≡◌, IfOk, IfErr, Ok, None, Some};
+ghost use Rattle.serde_json.specs.View.{view};
+ghost use Rattle.oxt_tree.specs.Names.{name_bytes};
+ghost use Rattle.oxt_tree.specs.View.{node_doc};
+ghost use Rattle.oxt_json.specs.Misreads.{Gives};
+ghost use Rattle.oxt_json.specs.Reading.{tree_of};
+ghost use Rattle.oxt_json.specs.Spelling.{reading, value_of, no_value, wrong, tree};
+
+use crate::misread::Misread;
+use crate::nodes::read_node;
+use oxt_table::category::Category;
+use oxt_table::context::Setting;
+use oxt_tree::ids::NodeIds;
+use oxt_tree::name::Name;
+use oxt_tree::tree::{Node, Program};
+use serde_json::Value;
+use std::alloc::Global;
+use thiserror::Error;
+
+/// Why bytes are no tree.
+#[derive(Debug, Drop, Error)]
+pub enum ReadFault {
+    /// Memory ran out, or no number is left for a node.
+    #[error("out of memory")]
+    OutOfMemory,
+    /// The bytes have no value as JSON.
+    #[error("json")]
+    Json,
+    /// The value is none that the grammar allows.
+    #[error("shape {}", .place.as_str())]
+    Shape {
+        /// The JSON pointer of the first wrong value.
+        place: Name,
+    },
+}
+
+impl From<Misread> for ReadFault {
+    ghost use Rattle.oxt_json.specs.Faults.{Shows};
+
+    ghost from_gives = { Shows };
+
+    fn from(misread: Misread) -> ReadFault {
+        let Misread::At(place) = misread else {
+            return ReadFault::OutOfMemory;
+        };
+        match Name::from_string(place) {
+            Ok(place) => ReadFault::Shape { place },
+            Err(_) => ReadFault::OutOfMemory,
+        }
+    }
+}
+
+ghost use Rattle.oxt_json.specs.Faults.{OnJson, IfShape};
+
+/// Reads the tree that JSON bytes spell. Its nodes have the numbers 1, 2 and so on, each before
+/// those in it.
+///
+/// # Errors
+/// `Json` where the bytes have no value, `Shape` with the first wrong value's place where the
+/// grammar does not allow the value, and `OutOfMemory`.
+#[tactic(auto, using(crate::proofs::Spelled::reading_tree, crate::proofs::Spelled::reading_none, crate::proofs::Spelled::reading_wrong))]
+pub fn read_tree(alloc: Global, text: &[u8]) -> Result<Program, ReadFault>
+    ensures tree { IfOk result (λ program. reading text.now
+        ≡ tree (node_doc program.root) program.ids.next) }
+    ensures json { IfErr result (OnJson (reading text.now ≡ no_value)) }
+    ensures shape { IfErr result (IfShape (λ place. reading text.now ≡ wrong (name_bytes place))) }
+{
+    let value = parse(alloc, text)?;
+    let mut ids = NodeIds { next: 1 };
+    let root = read_root(alloc, &value, &mut ids)?;
+    Ok(Program { root, ids })
+}
+
+// The JSON value that the bytes are.
+#[tactic(auto, using(crate::proofs::Spelled::value_some, crate::proofs::Spelled::value_none))]
+fn parse(alloc: Global, text: &[u8]) -> Result<Value, ReadFault>
+    ensures value { IfOk result (λ value. value_of text.now ≡ Some (view value)) }
+    ensures json { IfErr result (OnJson (value_of text.now ≡ None)) }
+    ensures shapeless { IfErr result (IfShape (λ _. ⊥)) }
+{
+    match Value::from_slice(alloc, text) {
+        Ok(value) => Ok(value),
+        Err(error) if error.is_memory() => Err(ReadFault::OutOfMemory),
+        Err(_) => Err(ReadFault::Json),
+    }
+}
+
+// The value as a whole tree.
+#[tactic(auto, using(crate::proofs::Spelled::root_object, crate::proofs::Spelled::root_wrong))]
+fn read_root(alloc: Global, value: &Value, ids: &mut NodeIds) -> Result<Node, Misread>
+    requires { ids.old.next ≡ 1 }
+    ensures { Gives node_doc result ids.new.next (tree_of (view value.now)) }
+{
+    let members = value.as_object().ok_or(Misread::here(alloc))?;
+    read_node(alloc, members, Setting::Elsewhere, Category::Program, ids)
+}

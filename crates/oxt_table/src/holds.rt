@@ -1,0 +1,55 @@
+//! What the fields of a node hold.
+
+use crate::category::Category;
+use crate::word::Words;
+
+/// What may stand in a field.
+#[derive(Clone, Copy, Debug, PartialEq, Eq)]
+pub enum Holds {
+    /// A text.
+    Text,
+    /// A text or null.
+    TextOrNull,
+    /// True or false.
+    Flag,
+    /// A whole number that a JavaScript number holds exactly, or null.
+    WholeOrNull,
+    /// One of the words.
+    Word(Words),
+    /// One of the words or null.
+    WordOrNull(Words),
+    /// A node of the category.
+    Node(Category),
+    /// A node of the category or null.
+    NodeOrNull(Category),
+    /// A node of the first category, and below a named export of the second.
+    Narrowed(Category, Category),
+    /// A list of nodes of the category.
+    List(Category),
+    /// A list of nodes of the category and of nulls.
+    ListOfNullable(Category),
+    /// A list of nodes of the category, or null.
+    ListOrNull(Category),
+}
+
+/// Whether a field has to be there.
+#[derive(Clone, Copy, Debug, PartialEq, Eq)]
+pub enum Presence {
+    /// It has to be there.
+    Required,
+    /// It stands at its default where it is left out.
+    Optional,
+    /// As `Optional`, and only TypeScript has the field.
+    TypeScript,
+}
+
+/// A field of a kind.
+#[derive(Clone, Copy, Debug)]
+pub struct Row {
+    /// The key in the node's JSON.
+    pub name: &'static str,
+    /// What may stand there.
+    pub holds: Holds,
+    /// Whether it has to be there.
+    pub presence: Presence,
+}

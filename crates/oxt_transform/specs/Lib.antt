@@ -1,0 +1,4 @@
+pub mod Faults
+pub mod Lowering
+pub mod Outcomes
+pub mod Refusals

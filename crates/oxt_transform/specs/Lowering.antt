@@ -1,0 +1,19 @@
+-- What lowering the bytes of a tree gives.
+use Rattle.std.specs.Prelude.{◌≡◌, ℕ, List, true}
+use Rattle.oxt_erase.specs.Erased.{erased}
+use Rattle.oxt_json.specs.Spelling.{reading, tree}
+use Rattle.oxt_json_write.specs.Spelled.{text_of}
+use Rattle.oxt_tree.specs.Doc.{Doc}
+use Rattle.oxt_tree.specs.Plain.{is_plain}
+use Rattle.oxt_tree.specs.Valid.{is_tree}
+
+-- The bytes spell a source tree, and the text is that of a valid and plain tree, the source without its types.
+pub record Lowers (bytes text : List ℕ) : Type 0 where
+  pub source : Doc
+  pub next : ℕ
+  pub output : Doc
+  pub spelled : reading bytes ≡ tree source next
+  pub erases : output ≡ erased source
+  pub valid : is_tree output ≡ true
+  pub plain : is_plain output ≡ true
+  pub written : text ≡ text_of output

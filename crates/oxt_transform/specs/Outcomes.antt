@@ -1,0 +1,187 @@
+-- What a run answers, and what that says of the words, the source and the sinks.
+use Rattle.std.specs.Prelude.{◌≡◌, ◌≤◌, ℕ, List, [], ◌∷◌, ◌++◌, length, Option, None, Some, codes, ⊤}
+use Rattle.std.specs.Io.KnownBytes.{Appends}
+use Rattle.oxt_io.specs.Counts.{Rose}
+use Rattle.oxt_io.specs.Passed.{GaveAll, AppendsPrefix}
+use Rattle.oxt_transform.specs.Lowering.{Lowers}
+use Rattle.oxt_transform.specs.Refusals.{Refusal, refusal_of, line_of}
+use Rattle.oxt_io.specs.declared.outcome.InputFault.{InputFault}
+use Rattle.oxt_io.specs.declared.outcome.InputFault.TheVariants as input
+use Rattle.oxt_transform.specs.declared.fault.Fault.{Fault}
+use Rattle.oxt_transform.specs.declared.program.Outcome.{Outcome}
+use Rattle.oxt_tree.specs.declared.name.Name.{Name}
+use Rattle.oxt_transform.specs.declared.program.Outcome.TheVariants.{Done, Refused, Usage, ReadFault, WriteFault, Memory, TooLong}
+
+-- the most bytes that a source may hold
+abbrev pub limit : ℕ
+limit = 16777216
+
+-- the line that says how the program is called
+abbrev pub usage_line : List ℕ
+usage_line = codes "usage: oxt [flags] < tree.json\n"
+
+-- the exit status
+abbrev pub status_of : Outcome → ℕ
+status_of Done = 0
+status_of (Refused f) = 2
+status_of Usage = 3
+status_of ReadFault = 4
+status_of WriteFault = 5
+status_of Memory = 6
+status_of TooLong = 7
+
+-- ---- a fact for one outcome
+
+abbrev pub OnDone : Outcome → Type 0 → Type 0
+OnDone Done P = P
+OnDone _ P = ⊤
+
+abbrev pub IfRefused : Outcome → (Fault → Type 0) → Type 0
+IfRefused (Refused f) P = P f
+IfRefused _ P = ⊤
+
+abbrev pub OnUsage : Outcome → Type 0 → Type 0
+OnUsage Usage P = P
+OnUsage _ P = ⊤
+
+abbrev pub OnReadFault : Outcome → Type 0 → Type 0
+OnReadFault ReadFault P = P
+OnReadFault _ P = ⊤
+
+abbrev pub OnWriteFault : Outcome → Type 0 → Type 0
+OnWriteFault WriteFault P = P
+OnWriteFault _ P = ⊤
+
+abbrev pub OnTooLong : Outcome → Type 0 → Type 0
+OnTooLong TooLong P = P
+OnTooLong _ P = ⊤
+
+-- for the outcomes under which nothing goes to standard output
+abbrev pub OnNoAnswer : Outcome → Type 0 → Type 0
+OnNoAnswer Done P = ⊤
+OnNoAnswer WriteFault P = ⊤
+OnNoAnswer _ P = P
+
+-- for the outcomes under which nothing goes to standard error
+abbrev pub OnNoMessage : Outcome → Type 0 → Type 0
+OnNoMessage (Refused f) P = ⊤
+OnNoMessage Usage P = ⊤
+OnNoMessage WriteFault P = ⊤
+OnNoMessage _ P = P
+
+-- words were given, or the fact holds
+abbrev pub UnlessUsage : Outcome → Type 0 → Type 0
+UnlessUsage Usage P = ⊤
+UnlessUsage WriteFault P = ⊤
+UnlessUsage _ P = P
+
+-- the tree was lowered, or memory ran out
+abbrev pub IsDoneOrMemory : Outcome → Type 0
+IsDoneOrMemory Done = ⊤
+IsDoneOrMemory Memory = ⊤
+IsDoneOrMemory _ = ⊥
+
+abbrev pub OnMemory : Outcome → Type 0 → Type 0
+OnMemory Memory P = P
+OnMemory _ P = ⊤
+
+abbrev pub IsUsageOrWriteFault : Outcome → Type 0
+IsUsageOrWriteFault Usage = ⊤
+IsUsageOrWriteFault WriteFault = ⊤
+IsUsageOrWriteFault _ = ⊥
+
+abbrev pub IsDoneOrWriteFault : Outcome → Type 0
+IsDoneOrWriteFault Done = ⊤
+IsDoneOrWriteFault WriteFault = ⊤
+IsDoneOrWriteFault _ = ⊥
+
+abbrev pub IsRefusedMemoryOrWriteFault : Outcome → Type 0
+IsRefusedMemoryOrWriteFault (Refused f) = ⊤
+IsRefusedMemoryOrWriteFault Memory = ⊤
+IsRefusedMemoryOrWriteFault WriteFault = ⊤
+IsRefusedMemoryOrWriteFault _ = ⊥
+
+-- how a run ends whose source was not read to its end
+abbrev pub input_outcome : InputFault → Outcome
+input_outcome input.Memory = Memory
+input_outcome input.Fault = ReadFault
+input_outcome input.TooLong = TooLong
+
+-- ---- the facts
+
+-- The bytes were lowered to a text, which stands here with a line feed.
+pub record LowersToLine (bytes line : List ℕ) : Type 0 where
+  pub text : List ℕ
+  pub lowered : Lowers bytes text
+  pub ended : line ≡ text ++ 10 ∷ []
+
+-- The fault handed on is the one that came, and err took its line.
+pub record Reported (came named : Option Refusal) (taken taken' : Option (List ℕ)) : Type 0 where
+  pub refusal : Refusal
+  pub same : came ≡ named
+  pub is : named ≡ Some refusal
+  pub wrote : Appends taken taken' (line_of refusal)
+
+-- All that the source held spells a tree that was lowered, and out took its text and a line feed.
+pub record Answered (left left' taken taken' : Option (List ℕ)) : Type 0 where
+  pub bytes : List ℕ
+  pub text : List ℕ
+  pub read : GaveAll left left' bytes
+  pub within : length bytes ≤ limit
+  pub lowered : Lowers bytes text
+  pub wrote : Appends taken taken' (text ++ 10 ∷ [])
+
+-- All that the source held is refused for this reason, and err took its line.
+pub record RefusedFor (reason : Option Refusal) (left left' taken taken' : Option (List ℕ)) : Type 0 where
+  pub bytes : List ℕ
+  pub refusal : Refusal
+  pub read : GaveAll left left' bytes
+  pub within : length bytes ≤ limit
+  pub named : reason ≡ Some refusal
+  pub cause : refusal_of bytes ≡ Some refusal
+  pub wrote : Appends taken taken' (line_of refusal)
+
+-- A sink failed, having taken a prefix of what it was to take.
+pub record CutOff (faults faults' : ℕ) (taken taken' : Option (List ℕ)) (text : List ℕ) : Type 0 where
+  pub rose : Rose faults faults'
+  pub prefix : AppendsPrefix taken taken' text
+
+-- Err took a prefix of the line for the fault that came.
+pub record ReportCut (came : Option Refusal) (taken taken' : Option (List ℕ)) : Type 0 where
+  pub refusal : Refusal
+  pub is : came ≡ Some refusal
+  pub prefix : AppendsPrefix taken taken' (line_of refusal)
+
+-- Out failed within the text of the plain tree; err was left alone.
+pub record AnswerCut (left left' taken taken' message message' : Option (List ℕ)) : Type 0 where
+  pub bytes : List ℕ
+  pub text : List ℕ
+  pub read : GaveAll left left' bytes
+  pub lowered : Lowers bytes text
+  pub prefix : AppendsPrefix taken taken' (text ++ 10 ∷ [])
+  pub quiet : message' ≡ message
+
+-- Err failed within the line for a refusal; out was left alone.
+pub record RefusalCut (left left' taken taken' message message' : Option (List ℕ)) : Type 0 where
+  pub bytes : List ℕ
+  pub refusal : Refusal
+  pub read : GaveAll left left' bytes
+  pub cause : refusal_of bytes ≡ Some refusal
+  pub prefix : AppendsPrefix message message' (line_of refusal)
+  pub quiet : taken' ≡ taken
+
+-- Err failed within the usage line; out was left alone.
+pub record UsageCut (taken taken' message message' : Option (List ℕ)) : Type 0 where
+  pub prefix : AppendsPrefix message message' usage_line
+  pub quiet : taken' ≡ taken
+
+-- No word is given, the source tells its bytes, which are few enough and not refused, and nothing failed.
+pub record NothingStands (words : List Name) (left : Option (List ℕ)) (read read' wrote wrote' told told' : ℕ) : Type 0 where
+  pub no_word : words ≡ []
+  pub bytes : List ℕ
+  pub holds : left ≡ Some bytes
+  pub within : length bytes ≤ limit
+  pub accepted : refusal_of bytes ≡ None
+  pub read_well : Rose read read' → ⊥
+  pub wrote_well : Rose wrote wrote' → ⊥
+  pub told_well : Rose told told' → ⊥

@@ -1,0 +1,76 @@
+//! Why bytes are refused.
+ghost use Rattle.std.specs.Prelude.{◌≡◌, Some, None, IfOk, ◌++◌, codes, option_map, string_bytes};
+ghost use Rattle.oxt_transform.specs.Faults.{refusal_in, read_refusal};
+ghost use Rattle.oxt_transform.specs.Refusals.{line_of};
+ghost use Rattle.oxt_transform.specs.declared.fault.Fault.TheVariants.{OutOfMemory as NoMemory};
+
+use oxt_json::ReadFault;
+use oxt_tree::ids::OutOfMemory;
+use oxt_tree::name::Name;
+use std::alloc::{AllocError, Global};
+use thiserror::Error;
+
+/// Why `transform_text` gave no tree.
+#[derive(Debug, Drop, Error)]
+pub enum Fault {
+    /// Memory ran out.
+    #[error("out of memory")]
+    OutOfMemory,
+    /// The bytes are no JSON, or nest too deeply.
+    #[error("not JSON")]
+    Json,
+    /// The JSON is no tree: `place` is the pointer of the first wrong value.
+    #[error("no tree at {place:?}", place = .place.as_str())]
+    Shape { place: Name },
+    /// The tree has a form that is not built yet: `kind` names the first.
+    #[error("not built yet: {kind:?}", kind = .kind.as_str())]
+    Unbuilt { kind: Name },
+    /// The lowered tree failed the test for a valid and plain one, and was thrown away.
+    #[error("the lowered tree failed its test")]
+    Uncertified,
+}
+
+impl From<OutOfMemory> for Fault {
+    ghost from_gives = { λ _ f. f ≡ NoMemory };
+
+    fn from(_error: OutOfMemory) -> Fault {
+        Fault::OutOfMemory
+    }
+}
+
+/// A fault of reading, as one of the whole work.
+pub(crate) fn fault_of_reading(fault: ReadFault) -> Fault
+    ensures { refusal_in result ≡ read_refusal fault }
+{
+    match fault {
+        ReadFault::OutOfMemory => Fault::OutOfMemory,
+        ReadFault::Json => Fault::Json,
+        ReadFault::Shape { place } => Fault::Shape { place },
+    }
+}
+
+impl Fault {
+    /// The line that names the fault on standard error; for want of memory there is none.
+    pub fn line(&self, alloc: Global) -> Result<Option<String>, AllocError>
+        ensures { IfOk result
+            (λ line. option_map string_bytes line ≡ option_map line_of (refusal_in self.now)) }
+    {
+        match self {
+            Fault::OutOfMemory => Ok(None),
+            Fault::Json => Ok(Some(String::from_str(alloc, "json\n")?)),
+            Fault::Shape { place } => Ok(Some(named_line(alloc, "shape ", place.as_str())?)),
+            Fault::Unbuilt { kind } => Ok(Some(named_line(alloc, "unbuilt ", kind.as_str())?)),
+            Fault::Uncertified => Ok(Some(String::from_str(alloc, "uncertified\n")?)),
+        }
+    }
+}
+
+// What is wrong, where, and a line feed.
+fn named_line(alloc: Global, what: &str, name: &str) -> Result<String, AllocError>
+    ensures { IfOk result (λ line. string_bytes line ≡ what.now ++ name.now ++ codes "\n") }
+{
+    let mut line = String::from_str(alloc, what)?;
+    line.push_str(name)?;
+    line.push_str("\n")?;
+    Ok(line)
+}

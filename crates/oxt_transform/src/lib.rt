@@ -1,0 +1,18 @@
+//! From the bytes of a TypeScript tree to those of a plain JavaScript tree, and the program's one call.
+#![tactic(auto)]
+
+pub mod fault;
+pub mod program;
+pub mod transform;
+
+pub use fault::Fault;
+pub use oxt_io::{
+    Failed, MemorySink, MemorySource, ReaderSource, Sink, Source, SureSink, SureSource, WriterSink,
+};
+pub use oxt_tree::ids::OutOfMemory;
+pub use oxt_tree::name::Name;
+pub use program::{Outcome, run};
+pub use transform::{TransformOptions, TransformerReturn, transform_text};
+
+#[cfg(test)]
+mod tests;

@@ -1,0 +1,181 @@
+//! The program's one call: from a source to two sinks.
+ghost use Rattle.std.specs.Prelude.{◌≡◌, ◌≢◌, ◌≤◌, ◌⊎◌, List, [], ◌∷◌, ◌++◌, length, None, Some, IfOk, IfErr};
+ghost use Rattle.std.specs.Io.KnownBytes.{Appends};
+ghost use Rattle.oxt_io.specs.Counts.{Rose};
+ghost use Rattle.oxt_io.specs.Passed.{GavePast};
+ghost use Rattle.oxt_transform.specs.Faults.{refusal_in, IsReasonFor};
+ghost use Rattle.oxt_transform.specs.Lowering.{Lowers};
+ghost use Rattle.oxt_transform.specs.Outcomes.{limit, usage_line, status_of, OnDone, IfRefused, OnUsage, OnReadFault, OnWriteFault, OnTooLong, OnNoAnswer, OnNoMessage, UnlessUsage, IsDoneOrMemory, Answered, RefusedFor, CutOff, OnMemory, IsUsageOrWriteFault, IsDoneOrWriteFault, IsRefusedMemoryOrWriteFault, input_outcome, LowersToLine, Reported, ReportCut, AnswerCut, RefusalCut, UsageCut, NothingStands};
+ghost use Rattle.oxt_transform.specs.Refusals.{refusal_of, line_of};
+
+use crate::fault::Fault;
+use crate::transform::{TransformOptions, transform_text};
+use oxt_io::{InputFault, Sink, Source, read_to_limit, write_all};
+use oxt_tree::name::Name;
+use std::alloc::Global;
+
+/// The most bytes that a source may hold.
+pub const LIMIT: usize = 16_777_216;
+
+/// The line for words that are not taken.
+pub const USAGE: &str = "usage: oxt [flags] < tree.json\n";
+
+/// How a run ended.
+#[derive(Debug, Drop)]
+pub enum Outcome {
+    /// The plain tree was written.
+    Done,
+    /// The bytes were refused, and a line says why; it is never for want of memory.
+    Refused(Fault),
+    /// The words were not taken, and a line says how the program is called.
+    Usage,
+    /// The source failed.
+    ReadFault,
+    /// A sink failed; it took a prefix of what it was to take.
+    WriteFault,
+    /// Memory ran out before the first byte was written.
+    Memory,
+    /// The source held more than `LIMIT` bytes.
+    TooLong,
+}
+
+impl Outcome {
+    /// The exit status of the program.
+    pub fn status(&self) -> u8
+        ensures { result ≡ status_of self.now }
+    {
+        match self {
+            Outcome::Done => 0,
+            Outcome::Refused(_) => 2,
+            Outcome::Usage => 3,
+            Outcome::ReadFault => 4,
+            Outcome::WriteFault => 5,
+            Outcome::Memory => 6,
+            Outcome::TooLong => 7,
+        }
+    }
+}
+
+/// Reads the tree from `source`, lowers it, and writes it to `out`, or a line that says why not to `err`.
+///
+/// `words` are the words after the program's name. All bytes are made before the first is written.
+pub fn run<S: Source, O: Sink, E: Sink>(
+    alloc: Global,
+    words: &[Name],
+    source: &mut S,
+    out: &mut O,
+    err: &mut E,
+) -> Outcome
+    // What was read was lowered and written.
+    ensures done { OnDone result
+        (Answered (S.left source.old) (S.left source.new) (O.taken out.old) (O.taken out.new)) }
+
+    // Each other answer has its cause.
+    ensures refused { IfRefused result (λ f. RefusedFor (refusal_in f)
+        (S.left source.old) (S.left source.new) (E.taken err.old) (E.taken err.new)) }
+    ensures usage { OnUsage result (words.now ≢ []) }
+    ensures usage_line { OnUsage result (Appends (E.taken err.old) (E.taken err.new) usage_line) }
+    ensures words_taken { UnlessUsage result (words.now ≡ []) }
+    ensures read_fault { OnReadFault result (Rose (S.faults source.old) (S.faults source.new)) }
+    ensures too_long { OnTooLong result (GavePast (S.left source.old) (S.left source.new) limit) }
+    ensures write_fault { OnWriteFault result
+        (Rose (O.faults out.old) (O.faults out.new) ⊎ Rose (E.faults err.old) (E.faults err.new)) }
+
+    ensures cut_off { OnWriteFault result
+        (AnswerCut (S.left source.old) (S.left source.new) (O.taken out.old) (O.taken out.new)
+        (E.taken err.old) (E.taken err.new)
+        ⊎ (RefusalCut (S.left source.old) (S.left source.new) (O.taken out.old) (O.taken out.new)
+        (E.taken err.old) (E.taken err.new)
+        ⊎ UsageCut (O.taken out.old) (O.taken out.new) (E.taken err.old) (E.taken err.new))) }
+
+    // Where nothing stands in the way, the tree is lowered, or memory runs out.
+    ensures completes { NothingStands words.now (S.left source.old)
+        (S.faults source.old) (S.faults source.new) (O.faults out.old) (O.faults out.new)
+        (E.faults err.old) (E.faults err.new) → IsDoneOrMemory result }
+
+    // Nothing else is written.
+    ensures quiet_out { OnNoAnswer result (O.taken out.new ≡ O.taken out.old) }
+    ensures quiet_err { OnNoMessage result (E.taken err.new ≡ E.taken err.old) }
+{
+    if !words.is_empty() {
+        return answer_usage(err);
+    }
+    let bytes = match read_to_limit(alloc, source, LIMIT) {
+        Ok(bytes) => bytes,
+        Err(fault) => return outcome_of_input(fault),
+    };
+    match lowered_line(alloc, bytes.as_slice()) {
+        Ok(line) => answer(out, line.as_slice()),
+        Err(fault) => refuse(alloc, fault, err),
+    }
+}
+
+// Says how the program is called.
+fn answer_usage<E: Sink>(err: &mut E) -> Outcome
+    ensures usage { OnUsage result (Appends (E.taken err.old) (E.taken err.new) usage_line) }
+    ensures write_fault { OnWriteFault result (CutOff (E.faults err.old) (E.faults err.new)
+        (E.taken err.old) (E.taken err.new) usage_line) }
+    ensures only { IsUsageOrWriteFault result }
+{
+    match write_all(err, USAGE.as_bytes()) {
+        Ok(()) => Outcome::Usage,
+        Err(_) => Outcome::WriteFault,
+    }
+}
+
+// How a run ends whose source was not read to its end.
+fn outcome_of_input(fault: InputFault) -> Outcome
+    ensures { result ≡ input_outcome fault }
+{
+    match fault {
+        InputFault::Memory => Outcome::Memory,
+        InputFault::Fault => Outcome::ReadFault,
+        InputFault::TooLong => Outcome::TooLong,
+    }
+}
+
+// The text of the plain tree, with a line feed.
+fn lowered_line(alloc: Global, bytes: &[u8]) -> Result<Vec<u8>, Fault>
+    ensures lowers { IfOk result (λ line. LowersToLine bytes.now line.items) }
+    ensures refused { IfErr result (λ f. IsReasonFor (refusal_in f) bytes.now) }
+{
+    let options = TransformOptions::defaults(alloc)?;
+    let mut text = transform_text(alloc, bytes, &options)?.into_text();
+    match text.push(b'\n') {
+        Ok(()) => Ok(text),
+        Err(_) => Err(Fault::OutOfMemory),
+    }
+}
+
+// Writes the plain tree.
+fn answer<O: Sink>(out: &mut O, line: &[u8]) -> Outcome
+    ensures done { OnDone result (Appends (O.taken out.old) (O.taken out.new) line.now) }
+    ensures write_fault { OnWriteFault result (CutOff (O.faults out.old) (O.faults out.new)
+        (O.taken out.old) (O.taken out.new) line.now) }
+    ensures only { IsDoneOrWriteFault result }
+{
+    match write_all(out, line) {
+        Ok(()) => Outcome::Done,
+        Err(_) => Outcome::WriteFault,
+    }
+}
+
+// Says why the bytes are refused, where it is not for want of memory.
+fn refuse<E: Sink>(alloc: Global, fault: Fault, err: &mut E) -> Outcome
+    ensures refused { IfRefused result (λ f. Reported (refusal_in fault) (refusal_in f)
+        (E.taken err.old) (E.taken err.new)) }
+    ensures memory { OnMemory result (E.taken err.new ≡ E.taken err.old) }
+    ensures write_fault { OnWriteFault result (Rose (E.faults err.old) (E.faults err.new)) }
+    ensures cut_off { OnWriteFault result
+        (ReportCut (refusal_in fault) (E.taken err.old) (E.taken err.new)) }
+    ensures only { IsRefusedMemoryOrWriteFault result }
+{
+    let line = match fault.line(alloc) {
+        Ok(Some(line)) => line,
+        _ => return Outcome::Memory,
+    };
+    match write_all(err, line.as_bytes()) {
+        Ok(()) => Outcome::Refused(fault),
+        Err(_) => Outcome::WriteFault,
+    }
+}

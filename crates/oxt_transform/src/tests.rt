@@ -1,0 +1,46 @@
+use super::*;
+use std::test::Fail;
+
+const SOURCE: &str =
+    "{\"type\":\"Program\",\"body\":[{\"type\":\"VariableDeclaration\",\"kind\":\"const\",\"declarations\":[{\"type\":\"VariableDeclarator\",\"id\":{\"type\":\"BindingIdentifier\",\"name\":\"x\"},\"typeAnnotation\":{\"type\":\"TSTypeAnnotation\",\"typeAnnotation\":{\"type\":\"TSNumberKeyword\"}},\"init\":{\"type\":\"NumericLiteral\",\"value\":0,\"raw\":\"0\"}}]}]}";
+
+const OUTPUT: &str =
+    "{\"body\":[{\"declarations\":[{\"id\":{\"name\":\"x\",\"type\":\"BindingIdentifier\"},\"init\":{\"raw\":\"0\",\"type\":\"NumericLiteral\",\"value\":0},\"type\":\"VariableDeclarator\"}],\"kind\":\"const\",\"type\":\"VariableDeclaration\"}],\"lang\":\"js\",\"type\":\"Program\"}\n";
+
+#[test]
+fn a_type_is_erased(rt: HostRuntime) -> Result<(), Fail> {
+    let mut source = MemorySource::new(rt.alloc(), SOURCE.as_bytes(), 16, &[])?;
+    let mut out = MemorySink::new(rt.alloc(), 1000, 7, &[])?;
+    let mut err = MemorySink::new(rt.alloc(), 1000, 7, &[])?;
+    let outcome = run(rt.alloc(), &[], &mut source, &mut out, &mut err);
+    assert_eq!(rt; outcome.status(), 0);
+    assert_eq!(rt; out.bytes(), OUTPUT.as_bytes());
+    assert_eq!(rt; err.bytes().len(), 0);
+    Ok(())
+}
+
+#[test]
+fn nothing_stands_in_the_way_of_a_sure_source(rt: HostRuntime) -> Result<(), Fail> {
+    let mut source = SureSource::new(rt.alloc(), SOURCE.as_bytes())?;
+    let outcome = run(
+        rt.alloc(),
+        &[],
+        &mut source,
+        &mut SureSink::new(),
+        &mut SureSink::new(),
+    );
+    assert_eq!(rt; outcome.status(), 0);
+    Ok(())
+}
+
+#[test]
+fn a_refusal_is_one_line(rt: HostRuntime) -> Result<(), Fail> {
+    let mut source = MemorySource::new(rt.alloc(), b"{\"type\":\"Program\"}", 16, &[])?;
+    let mut out = MemorySink::new(rt.alloc(), 100, 16, &[])?;
+    let mut err = MemorySink::new(rt.alloc(), 100, 16, &[])?;
+    let outcome = run(rt.alloc(), &[], &mut source, &mut out, &mut err);
+    assert_eq!(rt; outcome.status(), 2);
+    assert_eq!(rt; out.bytes().len(), 0);
+    assert_eq!(rt; err.bytes(), b"shape /body\n".as_slice());
+    Ok(())
+}

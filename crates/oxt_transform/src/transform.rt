@@ -1,0 +1,86 @@
+//! The work on one tree.
+ghost use Rattle.std.specs.Prelude.{◌≡◌, Option, None, Some, IfOk, IfErr, OnOk};
+ghost use Rattle.oxt_transform.specs.Faults.{refusal_in, IsReasonFor, text_in};
+ghost use Rattle.oxt_transform.specs.Lowering.{Lowers};
+ghost use Rattle.oxt_transform.specs.Refusals.{refusal_of, passes};
+ghost use Rattle.oxt_tree.specs.View.{node_doc};
+
+use crate::fault::{Fault, fault_of_reading};
+use oxt_erase::erase::erase_program;
+use oxt_erase::unbuilt::first_unbuilt;
+use oxt_json::read_tree;
+use oxt_json_write::write_tree;
+use oxt_tree::fits::is_tree;
+use oxt_tree::ids::OutOfMemory;
+use oxt_tree::plain::is_plain;
+use oxt_tree::tree::Node;
+use std::alloc::Global;
+
+/// What changes the lowering. No option stands yet.
+#[derive(Clone, Copy, Debug)]
+pub struct TransformOptions {}
+
+impl TransformOptions {
+    /// The options of a run without flags.
+    pub fn defaults(_alloc: Global) -> Result<TransformOptions, OutOfMemory> {
+        Ok(TransformOptions {})
+    }
+}
+
+/// The plain tree that came out.
+#[derive(Drop)]
+pub struct TransformerReturn {
+    bytes: Vec<u8>,
+}
+
+impl TransformerReturn {
+    /// Its JSON, without a line feed.
+    pub fn text(&self) -> &[u8]
+        ensures { result.now ≡ text_in self.now }
+    {
+        self.bytes.as_slice()
+    }
+
+    /// Its JSON.
+    pub fn into_text(self) -> Vec<u8>
+        ensures { result.items ≡ text_in self }
+    {
+        self.bytes
+    }
+}
+
+/// Lowers the tree that the bytes spell to plain JavaScript.
+///
+/// # Errors
+///
+/// The first reason in the order of `Fault`'s variants after want of memory, which may come at any step.
+pub fn transform_text(
+    alloc: Global,
+    text: &[u8],
+    _options: &TransformOptions,
+) -> Result<TransformerReturn, Fault>
+    ensures lowers { IfOk result (λ r. Lowers text.now (text_in r)) }
+    ensures accepted { OnOk result (refusal_of text.now ≡ None) }
+    ensures refused { IfErr result (λ f. IsReasonFor (refusal_in f) text.now) }
+{
+    let mut program = match read_tree(alloc, text) {
+        Ok(program) => program,
+        Err(fault) => return Err(fault_of_reading(fault)),
+    };
+    if let Some(kind) = first_unbuilt(alloc, &program.root)? {
+        return Err(Fault::Unbuilt { kind });
+    }
+    erase_program(alloc, &mut program);
+    if !is_certified(&program.root) {
+        return Err(Fault::Uncertified);
+    }
+    let bytes = write_tree(alloc, &program)?;
+    Ok(TransformerReturn { bytes })
+}
+
+// Whether the lowered tree is one of the grammar without TypeScript.
+fn is_certified(output: &Node) -> bool
+    ensures { result ≡ passes (node_doc output.now) }
+{
+    is_tree(output) && is_plain(output)
+}

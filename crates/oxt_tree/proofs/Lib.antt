@@ -1,0 +1,4 @@
+pub mod FitLoops
+pub mod Lists
+pub mod Places
+pub mod PlainLoops

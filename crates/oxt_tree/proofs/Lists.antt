@@ -1,0 +1,35 @@
+-- The documents of a list of parts.
+use Rattle.std.proofs.Common.{◌+◌, ◌<◌, ◌≤◌, ◌≡◌, refl, sym, ap, ◌∙◌, arith, ℕ, zero, suc, List, [], ◌∷◌, length, map, drop, Bool, ◌||◌, cond, get_or, add-one}
+use Rattle.std.proofs.Math.Seq.{drop-cons}
+use Rattle.std.proofs.lemmas.List.Folds.{fold-map}
+use Rattle.std.specs.List.{list_any, count_by}
+use Rattle.oxt_tree.specs.Condition.{count}
+use Rattle.oxt_tree.specs.Doc.{Doc}
+use Rattle.oxt_tree.specs.Fields.{docs_list}
+use Rattle.oxt_tree.specs.View.{docs_in, part_doc}
+use Rattle.oxt_tree.specs.declared.tree.Part.{Part}
+
+pub docs_list_docs_in : (ps : List Part) → docs_list (docs_in ps) ≡ map part_doc ps
+docs_list_docs_in [] = refl
+docs_list_docs_in (p ∷ ps) = ap (λ ds. part_doc p ∷ ds) (docs_list_docs_in ps)
+
+pub count_docs_in : (ps : List Part) → length ps ≡ count (docs_in ps)
+count_docs_in [] = refl
+count_docs_in (p ∷ ps) = ap (λ n. suc n) (count_docs_in ps)
+
+pub list_any_docs_in : (t : Doc → Bool) (ps : List Part) → list_any t (docs_list (docs_in ps)) ≡ list_any (λ p. t (part_doc p)) ps
+list_any_docs_in t [] = refl
+list_any_docs_in t (p ∷ ps) = ap (λ b. t (part_doc p) || b) (list_any_docs_in t ps)
+
+pub count_by_docs_in : (t : Doc → Bool) (ps : List Part) → count_by t (docs_list (docs_in ps)) ≡ count_by (λ p. t (part_doc p)) ps
+count_by_docs_in t ps = ap (count_by t) (docs_list_docs_in ps) ∙ fold-map (λ a x. a + cond (t x) 1 0) part_doc 0 ps
+
+-- The rest of a list begins with the element at its place.
+pub drop_at : {A : Type 0} (xs : List A) (i : ℕ) (x : A) → i < length xs → x ≡ get_or xs i x → drop i xs ≡ x ∷ drop (i + 1) xs
+drop_at xs i x h e = rw add-one (drop-cons xs i x h ∙ ap (λ y. y ∷ drop (suc i) xs) (sym e))
+
+pub drop_end : {A : Type 0} (xs : List A) (i : ℕ) → length xs ≤ i → drop i xs ≡ []
+drop_end [] zero h = refl
+drop_end [] (suc i) h = refl
+drop_end (x ∷ xs) zero h = absurd (omega arith)
+drop_end (x ∷ xs) (suc i) h = drop_end xs i (omega arith)

@@ -1,0 +1,242 @@
+//! What the fields of a node hold, by the names that the grammar gives them.
+ghost use Rattle.std.specs.Prelude.{◌≡◌, option_map};
+ghost use Rattle.std.specs.List.{position_from, slice_get};
+ghost use Rattle.std.specs.Str.{bytes_eq};
+ghost use Rattle.oxt_table.specs.Field.{row_view};
+ghost use Rattle.oxt_table.specs.Rows.{row_of};
+ghost use Rattle.oxt_table.specs.declared.holds.Holds.TheVariants as holds;
+ghost use Rattle.oxt_tree.specs.Doc.{Doc};
+ghost use Rattle.oxt_tree.specs.Fields.{named, elements, node_of, is_nil, is_set, is_text, is_kind, is_in, default_of, is_default, is_left_out, is_empty_list};
+ghost use Rattle.oxt_tree.specs.View.{doc_of_part, doc_or_nil, docs_in, node_doc, part_doc};
+
+use crate::tree::{Node, Part};
+use oxt_table::category::Category;
+use oxt_table::holds::{Holds, Presence, Row};
+use oxt_table::kind::Kind;
+use oxt_table::word::Words;
+use std::alloc::Global;
+
+impl Node {
+    /// What the field of that name holds; none where the node's kind has no such field.
+    #[tactic(auto, using(crate::proofs::Places::named_at))]
+    pub fn field(&self, name: &str) -> Option<&Part>
+        ensures { doc_or_nil result ≡ named name.now self.now.kind (docs_in self.now.parts.items) }
+    {
+        match place_of(self.kind.rows(), name) {
+            Some(place) => part_at(&self.parts, place),
+            None => None,
+        }
+    }
+
+    /// Whether the field of that name is a flag that is set.
+    pub fn flag(&self, name: &str) -> bool
+        ensures { result ≡ is_set (named name.now self.now.kind (docs_in self.now.parts.items)) }
+    {
+        match self.field(name) {
+            Some(part) => part.is_set(),
+            None => false,
+        }
+    }
+
+    /// Whether the field of that name is null, or the node's kind has no such field.
+    pub fn lacks(&self, name: &str) -> bool
+        ensures { result ≡ is_nil (named name.now self.now.kind (docs_in self.now.parts.items)) }
+    {
+        match self.field(name) {
+            Some(part) => part.is_nothing(),
+            None => true,
+        }
+    }
+
+    /// The elements of the list in the field of that name; none where it holds no list.
+    pub fn list(&self, name: &str) -> &[Part]
+        ensures { docs_in result.now ≡ elements (named name.now self.now.kind (docs_in self.now.parts.items)) }
+    {
+        match self.field(name) {
+            Some(part) => part.elements(),
+            None => &[],
+        }
+    }
+
+    /// Whether the field of that name holds that text, or the word with that text.
+    pub fn holds_text(&self, name: &str, text: &str) -> bool
+        ensures { result ≡ is_text text.now (named name.now self.now.kind (docs_in self.now.parts.items)) }
+    {
+        match self.field(name) {
+            Some(part) => part.is_text(text),
+            None => false,
+        }
+    }
+
+    /// Whether the field of that name holds a node of that kind.
+    pub fn holds_kind(&self, name: &str, kind: Kind) -> bool
+        ensures { result ≡ is_kind kind (named name.now self.now.kind (docs_in self.now.parts.items)) }
+    {
+        match self.field(name) {
+            Some(part) => part.is_kind(kind),
+            None => false,
+        }
+    }
+}
+
+impl Part {
+    /// Whether it is null.
+    pub fn is_nothing(&self) -> bool
+        ensures { result ≡ is_nil (part_doc self.now) }
+    {
+        match self {
+            Part::Nothing => true,
+            _ => false,
+        }
+    }
+
+    /// Whether it is a flag that is set.
+    pub fn is_set(&self) -> bool
+        ensures { result ≡ is_set (part_doc self.now) }
+    {
+        match self {
+            Part::Flag(flag) => *flag,
+            _ => false,
+        }
+    }
+
+    /// Whether it is that text, or the word with that text.
+    pub fn is_text(&self, text: &str) -> bool
+        ensures { result ≡ is_text text.now (part_doc self.now) }
+    {
+        match self {
+            Part::Text(name) => name.as_str() == text,
+            Part::Word(word) => word.text() == text,
+            _ => false,
+        }
+    }
+
+    /// Whether it is a node of that kind.
+    pub fn is_kind(&self, kind: Kind) -> bool
+        ensures { result ≡ is_kind kind (part_doc self.now) }
+    {
+        match self {
+            Part::Node(node) => node.kind.is(kind),
+            _ => false,
+        }
+    }
+
+    /// Whether it is a node of a kind of that category.
+    pub fn is_in(&self, category: Category) -> bool
+        ensures { result ≡ is_in category (part_doc self.now) }
+    {
+        match self {
+            Part::Node(node) => category.contains(node.kind),
+            _ => false,
+        }
+    }
+
+    /// The node that it is.
+    pub fn as_node(&self) -> Option<&Node>
+        ensures { option_map (λ node. node_doc node.now) result ≡ node_of (part_doc self.now) }
+    {
+        match self {
+            Part::Node(node) => Some(node),
+            _ => None,
+        }
+    }
+
+    /// The elements of the list that it is; none where it is no list.
+    pub fn elements(&self) -> &[Part]
+        ensures { docs_in result.now ≡ elements (part_doc self.now) }
+    {
+        match self {
+            Part::List(parts) => parts.as_slice(),
+            _ => &[],
+        }
+    }
+
+    /// Whether it is what such a field holds where it is left out.
+    pub fn is_default(&self, holds: Holds) -> bool
+        ensures { result ≡ is_default holds (part_doc self.now) }
+    {
+        match holds {
+            Holds::Flag => match self {
+                Part::Flag(flag) => !*flag,
+                _ => false,
+            },
+            Holds::Word(words) => self.is_first_of(words),
+            Holds::List(_) => self.is_empty_list(),
+            Holds::ListOfNullable(_) => self.is_empty_list(),
+            Holds::TextOrNull => self.is_nothing(),
+            Holds::WholeOrNull => self.is_nothing(),
+            Holds::WordOrNull(_) => self.is_nothing(),
+            Holds::NodeOrNull(_) => self.is_nothing(),
+            Holds::ListOrNull(_) => self.is_nothing(),
+            _ => false,
+        }
+    }
+
+    /// Whether it is the first of the words.
+    fn is_first_of(&self, words: Words) -> bool
+        ensures { result ≡ is_default (holds.Word words) (part_doc self.now) }
+    {
+        match words.all().first() {
+            Some(word) => self.is_text(word.text()),
+            None => false,
+        }
+    }
+
+    /// Whether it is a list without elements.
+    fn is_empty_list(&self) -> bool
+        ensures { result ≡ is_empty_list (part_doc self.now) }
+    {
+        match self {
+            Part::List(parts) => parts.first().is_none(),
+            _ => false,
+        }
+    }
+
+    /// Whether the written tree leaves out this field of a node.
+    pub fn is_left_out(&self, row: &Row) -> bool
+        ensures { result ≡ is_left_out (row_view row.now) (part_doc self.now) }
+    {
+        match row.presence {
+            Presence::Required => false,
+            Presence::Optional => self.is_default(row.holds),
+            Presence::TypeScript => self.is_default(row.holds),
+        }
+    }
+}
+
+/// The place of the first row of that name.
+fn place_of(rows: &[Row], name: &str) -> Option<usize>
+    ensures { result ≡ position_from (λ row. bytes_eq row.name.now name.now) 0 rows.now }
+{
+    rows.iter().position(|row| row.name == name)
+}
+
+/// The part at that place.
+fn part_at(parts: &[Part], place: usize) -> Option<&Part>
+    ensures { doc_or_nil result ≡ doc_of_part (slice_get parts.now place) }
+{
+    parts.get(place)
+}
+
+/// What a field holds where it is left out.
+pub fn default_part(alloc: Global, holds: Holds) -> Part
+    ensures { part_doc result ≡ default_of holds }
+{
+    match holds {
+        Holds::Flag => Part::Flag(false),
+        Holds::Word(words) => first_word(words),
+        Holds::List(_) => Part::List(Vec::new(alloc)),
+        Holds::ListOfNullable(_) => Part::List(Vec::new(alloc)),
+        _ => Part::Nothing,
+    }
+}
+
+/// The first of the words.
+fn first_word(words: Words) -> Part
+    ensures { part_doc result ≡ default_of (holds.Word words) }
+{
+    match words.all().first() {
+        Some(word) => Part::Word(*word),
+        None => Part::Nothing,
+    }
+}

@@ -1,0 +1,579 @@
+#!/usr/bin/env python3
+"""Writes the tables of the grammar from grammar/grammar.txt, which says what its lines mean.
+
+  tools/grammar.py           writes the generated files
+  tools/grammar.py --check   writes nothing, and fails where one of them is not up to date
+"""
+import os
+import re
+import sys
+
+ROOT = os.path.dirname(os.path.dirname(os.path.abspath(__file__)))
+NOTE = "Written by tools/grammar.py from grammar/grammar.txt."
+
+
+class Field:
+    def __init__(self, name, required, holds, argument):
+        self.name, self.required, self.holds, self.argument = name, required, holds, argument
+        self.typescript = False
+
+
+class Grammar:
+    def __init__(self, text):
+        self.words, self.categories, self.kinds = {}, {}, {}
+        self.conditions, self.settings = {}, {}
+        self.typescript, self.typescript_of, self.unbuilt = set(), set(), set()
+        for line in text.splitlines():
+            self.take(line.split("#")[0].strip())
+        for kind, fields in self.kinds.items():
+            for field in fields:
+                field.typescript = field.name in self.typescript or (kind, field.name) in self.typescript_of
+        used = {f.argument for fields in self.kinds.values() for f in fields if f.argument in self.kinds}
+        used.add("Program")
+        used |= {f.argument[1] for fields in self.kinds.values() for f in fields if f.holds == "Narrowed"}
+        for kind in [k for k in self.kinds if k in used]:
+            self.categories[kind] = [kind]
+
+    def take(self, line):
+        if not line:
+            return
+        first, _, rest = line.partition(" ")
+        if first == "word":
+            name, words = rest.split(" = ")
+            self.words[name] = [w.replace("~", " ") for w in words.split()]
+        elif first == "category":
+            name, kinds = rest.split(" = ")
+            self.categories[name] = [k for w in kinds.split() for k in self.categories.get(w, [w])]
+        elif first in ("condition", "setting"):
+            name, kinds = rest.split(" = ")
+            (self.conditions if first == "condition" else self.settings)[name] = kinds.split()
+        elif first == "unbuilt":
+            self.unbuilt |= set(rest.split())
+        elif first == "typescript":
+            names, _, kinds = rest.partition(" of ")
+            for name in names.split():
+                if kinds:
+                    self.typescript_of |= {(k, name) for k in kinds.split()}
+                else:
+                    self.typescript.add(name)
+        else:
+            kind, _, fields = line.partition(":")
+            self.kinds[kind] = [self.field(f.strip()) for f in fields.split(",") if f.strip()]
+
+    def field(self, text):
+        name, holds = text.split(" ", 1)
+        required, name = name.endswith("!"), name.rstrip("!")
+        simple = {"text": "Text", "text?": "TextOrNull", "flag": "Flag", "whole?": "WholeOrNull"}
+        if holds in simple:
+            return Field(name, required, simple[holds], None)
+        if holds.startswith("word"):
+            first, words = holds.split()
+            return Field(name, required, "Word" if first == "word" else "WordOrNull", words)
+        if holds.startswith("["):
+            inner, end = holds[1:].split("]")
+            if inner.endswith("?"):
+                return Field(name, required, "ListOfNullable", inner[:-1])
+            return Field(name, required, "ListOrNull" if end == "?" else "List", inner)
+        if "|" in holds:
+            return Field(name, required, "Narrowed", tuple(holds.split("|")))
+        return Field(name, required, "NodeOrNull" if holds.endswith("?") else "Node", holds.rstrip("?"))
+
+    def condition(self, kind):
+        return next((name for name, kinds in self.conditions.items() if kind in kinds), "Nothing")
+
+    def setting(self, kind):
+        return next((name for name, kinds in self.settings.items() if kind in kinds), "Elsewhere")
+
+    def is_typescript(self, kind):
+        return kind.startswith("TS") or kind.startswith("JSDoc")
+
+    def all_words(self):
+        seen = []
+        for words in self.words.values():
+            seen += [w for w in words if w not in seen]
+        return seen
+
+
+def word_variant(word):
+    names = {"++": "Increment", "--": "Decrement", "await using": "AwaitUsing"}
+    return names.get(word, word[:1].upper() + word[1:])
+
+
+def snake(name):
+    text = re.sub(r"(?<=[a-z0-9])([A-Z])", r"_\1", name)
+    return re.sub(r"([A-Z])([A-Z][a-z])", r"\1_\2", text).lower()
+
+
+def holds_of(field, enum):
+    argument = "" if field.argument is None else field.argument
+    if field.holds == "Narrowed":
+        wide, narrow = argument
+        if enum == "antt":
+            return f"(Holds.Narrowed Category.{wide} Category.{narrow})"
+        return f"Holds::Narrowed(Category::{wide}, Category::{narrow})"
+    if enum == "antt":
+        inner = f" {('Words' if field.holds.startswith('Word') else 'Category')}.{argument}" if argument else ""
+        return f"(Holds.{field.holds}{inner})" if inner else f"Holds.{field.holds}"
+    inner = f"({('Words' if field.holds.startswith('Word') else 'Category')}::{argument})" if argument else ""
+    return f"Holds::{field.holds}{inner}"
+
+
+def slice_of(name, items):
+    """The items as a slice in the arm of that name, in the formatter's layout."""
+    inline = ", ".join(items)
+    if len(inline) <= 60 and len(f"            {name} => &[{inline}],") <= 100:
+        return f"&[{inline}]"
+    return "&[\n" + "".join(f"                {item},\n" for item in items) + "            ]"
+
+
+def variants(names):
+    return "\n".join(f"    {name}," for name in names)
+
+
+def kind_source(g):
+    names = "\n".join(f"            Kind::{k} => \"{k}\"," for k in g.kinds)
+    typescript = "\n".join(f"            Kind::{k} => {'true' if g.is_typescript(k) else 'false'}," for k in g.kinds)
+    return f"""// {NOTE}
+ghost use Rattle.std.specs.Prelude.{{◌≡◌}};
+ghost use Rattle.oxt_table.specs.Kinds.{{name_of, is_typescript_kind}};
+
+/// What a node is: the text of its `type`.
+#[derive(Clone, Copy, Debug, PartialEq, Eq)]
+pub enum Kind {{
+{variants(g.kinds)}
+}}
+
+impl Kind {{
+    /// The text that a tree's JSON has for the kind.
+    pub fn name(self) -> &'static str
+        ensures {{ result.now ≡ name_of self }}
+    {{
+        match self {{
+{names}
+        }}
+    }}
+
+    /// Whether the kind is one of TypeScript alone.
+    pub fn is_typescript(self) -> bool
+        ensures {{ result ≡ is_typescript_kind self }}
+    {{
+        match self {{
+{typescript}
+        }}
+    }}
+}}
+"""
+
+
+def context_source(g):
+    conditions = "\n".join(f"            Kind::{k} => Condition::{g.condition(k)}," for k in g.kinds)
+    settings = "\n".join(f"            Kind::{k} => Setting::{g.setting(k)}," for k in g.kinds)
+    return f"""// {NOTE}
+ghost use Rattle.std.specs.Prelude.{{◌≡◌}};
+ghost use Rattle.oxt_table.specs.Context.{{condition_of, setting_of}};
+
+use crate::kind::Kind;
+
+/// A condition on a node beside what its fields hold.
+#[derive(Clone, Copy, Debug, PartialEq, Eq)]
+pub enum Condition {{
+    Nothing,
+{variants(g.conditions)}
+}}
+
+/// What a node stands directly in, as far as that narrows what its fields hold.
+#[derive(Clone, Copy, Debug, PartialEq, Eq)]
+pub enum Setting {{
+    Elsewhere,
+{variants(g.settings)}
+}}
+
+impl Kind {{
+    /// The condition that a node of this kind has to meet beside what its fields hold.
+    pub fn condition(self) -> Condition
+        ensures {{ result ≡ condition_of self }}
+    {{
+        match self {{
+{conditions}
+        }}
+    }}
+
+    /// What the nodes in the fields of a node of this kind stand in.
+    pub fn setting(self) -> Setting
+        ensures {{ result ≡ setting_of self }}
+    {{
+        match self {{
+{settings}
+        }}
+    }}
+}}
+"""
+
+
+def context_spec(g):
+    conditions = "\n".join(f"condition_of kind.{k} = condition.{g.condition(k)}" for k in g.kinds)
+    settings = "\n".join(f"setting_of kind.{k} = setting.{g.setting(k)}" for k in g.kinds)
+    return f"""-- {NOTE}
+use Rattle.oxt_table.specs.declared.kind.Kind.{{Kind}}
+use Rattle.oxt_table.specs.declared.kind.Kind.TheVariants as kind
+use Rattle.oxt_table.specs.declared.context.Condition.{{Condition}}
+use Rattle.oxt_table.specs.declared.context.Condition.TheVariants as condition
+use Rattle.oxt_table.specs.declared.context.Setting.{{Setting}}
+use Rattle.oxt_table.specs.declared.context.Setting.TheVariants as setting
+
+-- the condition that a node has to meet beside what its fields hold
+abbrev pub condition_of : Kind → Condition
+{conditions}
+
+-- what the nodes in its fields stand in
+abbrev pub setting_of : Kind → Setting
+{settings}
+"""
+
+
+def kinds_spec(g):
+    names = "\n".join(f"name_of {k} = codes \"{k}\"" for k in g.kinds)
+    typescript = "\n".join(f"is_typescript_kind {k} = {'true' if g.is_typescript(k) else 'false'}" for k in g.kinds)
+    return f"""-- {NOTE}
+use Rattle.std.specs.Prelude.{{ℕ, List, Bool, true, false, codes}}
+use Rattle.oxt_table.specs.declared.kind.Kind.{{Kind}}
+use Rattle.oxt_table.specs.declared.kind.Kind.TheVariants.{{{", ".join(g.kinds)}}}
+
+-- the text that a tree's JSON has for a kind
+abbrev pub name_of : Kind → List ℕ
+{names}
+
+-- whether a kind is one of TypeScript alone
+abbrev pub is_typescript_kind : Kind → Bool
+{typescript}
+"""
+
+
+def category_source(g):
+    arms = "\n".join(
+        f"            Category::{c} => {slice_of('Category::' + c, ['Kind::' + k for k in kinds])}," for c, kinds in g.categories.items())
+    return f"""// {NOTE}
+ghost use Rattle.std.specs.Prelude.{{◌≡◌, find}};
+ghost use Rattle.std.specs.Str.{{bytes_eq}};
+ghost use Rattle.oxt_table.specs.Kinds.{{name_of}};
+ghost use Rattle.oxt_table.specs.Categories.{{kinds_in}};
+
+use crate::kind::Kind;
+
+/// A set of kinds that may stand at a place.
+#[derive(Clone, Copy, Debug, PartialEq, Eq)]
+pub enum Category {{
+{variants(g.categories)}
+}}
+
+impl Category {{
+    /// The kinds of the category, in the order of the grammar.
+    #[tactic(auto, unfolding(crate::specs::Categories::kinds_in))]
+    pub fn kinds(self) -> &'static [Kind]
+        ensures {{ result.now ≡ kinds_in self }}
+    {{
+        match self {{
+{arms}
+        }}
+    }}
+
+    /// The kind of the category whose name is `text`.
+    pub fn find(self, text: &str) -> Option<Kind>
+        ensures {{ result ≡ find (λ k. bytes_eq (name_of k) text.now) (kinds_in self) }}
+    {{
+        self.kinds()
+            .iter()
+            .copied()
+            .find(|kind| kind.name() == text)
+    }}
+}}
+"""
+
+
+def categories_spec(g):
+    rows = "\n".join(f"kinds_in category.{c} = {' ∷ '.join('kind.' + k for k in kinds)} ∷ []" for c, kinds in g.categories.items())
+    return f"""-- {NOTE}
+use Rattle.std.specs.Prelude.{{List, [], ◌∷◌}}
+use Rattle.oxt_table.specs.declared.kind.Kind.{{Kind}}
+use Rattle.oxt_table.specs.declared.kind.Kind.TheVariants as kind
+use Rattle.oxt_table.specs.declared.category.Category.{{Category}}
+use Rattle.oxt_table.specs.declared.category.Category.TheVariants as category
+
+-- the kinds of a category, in the order of the grammar
+unfoldable pub kinds_in : Category → List Kind
+{rows}
+"""
+
+
+def word_source(g):
+    all_words = g.all_words()
+    texts = "\n".join(f"            Word::{word_variant(w)} => \"{w}\"," for w in all_words)
+    arms = "\n".join(
+        f"            Words::{n} => {slice_of('Words::' + n, ['Word::' + word_variant(w) for w in words])}," for n, words in g.words.items())
+    return f"""// {NOTE}
+ghost use Rattle.std.specs.Prelude.{{◌≡◌, find}};
+ghost use Rattle.std.specs.Str.{{bytes_eq}};
+ghost use Rattle.oxt_table.specs.Words.{{text_of, words_in}};
+
+/// A word that a field may hold.
+#[derive(Clone, Copy, Debug, PartialEq, Eq)]
+pub enum Word {{
+{variants(map(word_variant, all_words))}
+}}
+
+impl Word {{
+    /// The text that a tree's JSON has for the word.
+    pub fn text(self) -> &'static str
+        ensures {{ result.now ≡ text_of self }}
+    {{
+        match self {{
+{texts}
+        }}
+    }}
+}}
+
+/// The words that a field may hold, named after the field.
+#[derive(Clone, Copy, Debug, PartialEq, Eq)]
+pub enum Words {{
+{variants(g.words)}
+}}
+
+impl Words {{
+    /// The words of the list; the first is the default of a field that need not be there.
+    pub fn all(self) -> &'static [Word]
+        ensures {{ result.now ≡ words_in self }}
+    {{
+        match self {{
+{arms}
+        }}
+    }}
+
+    /// The word of the list whose text is `text`.
+    pub fn find(self, text: &str) -> Option<Word>
+        ensures {{ result ≡ find (λ w. bytes_eq (text_of w) text.now) (words_in self) }}
+    {{
+        self.all().iter().copied().find(|word| word.text() == text)
+    }}
+}}
+"""
+
+
+def words_spec(g):
+    texts = "\n".join(f"text_of word.{word_variant(w)} = codes \"{w}\"" for w in g.all_words())
+    lists = "\n".join(
+        f"words_in words.{n} = {' ∷ '.join('word.' + word_variant(w) for w in words)} ∷ []" for n, words in g.words.items())
+    return f"""-- {NOTE}
+use Rattle.std.specs.Prelude.{{ℕ, List, [], ◌∷◌, codes}}
+use Rattle.oxt_table.specs.declared.word.Word.{{Word}}
+use Rattle.oxt_table.specs.declared.word.Word.TheVariants as word
+use Rattle.oxt_table.specs.declared.word.Words.{{Words}}
+use Rattle.oxt_table.specs.declared.word.Words.TheVariants as words
+
+-- the text that a tree's JSON has for a word
+abbrev pub text_of : Word → List ℕ
+{texts}
+
+-- the words of a list
+abbrev pub words_in : Words → List Word
+{lists}
+"""
+
+
+def presence(field):
+    return "Required" if field.required else "TypeScript" if field.typescript else "Optional"
+
+
+def row_source(g):
+    arms = ""
+    for kind, fields in g.kinds.items():
+        rows = "".join(f"                \"{f.name}\" {presence(f)} {holds_of(f, 'rust')},\n" for f in fields)
+        arms += f"            {kind} {{\n{rows}            }}\n" if fields else f"            {kind} {{}}\n"
+    return f"""// {NOTE}
+ghost use Rattle.std.specs.Prelude.{{◌≡◌, map}};
+ghost use Rattle.oxt_table.specs.Field.{{row_view}};
+ghost use Rattle.oxt_table.specs.Rows.{{row_of}};
+
+use crate::category::Category;
+use crate::holds::{{Holds, Presence, Row}};
+use crate::kind::Kind;
+use crate::word::Words;
+
+macro_rules! rows {{
+    ($kind:expr; $($name:ident {{ $($field:literal $presence:ident $holds:expr,)* }})*) => {{
+        match $kind {{
+            $(Kind::$name => &[
+                $(Row {{ name: $field, holds: $holds, presence: Presence::$presence }}),*
+            ],)*
+        }}
+    }};
+}}
+
+impl Kind {{
+    /// The fields of a node of this kind, in the order in which they are checked.
+    #[tactic(auto, unfolding(crate::specs::Rows::row_of))]
+    pub fn rows(self) -> &'static [Row]
+        ensures {{ map row_view result.now ≡ row_of self }}
+    {{
+        rows! {{ self;
+{arms}        }}
+    }}
+}}
+"""
+
+
+def rows_spec(g):
+    def rule(f):
+        return f"field (codes \"{f.name}\") {holds_of(f, 'antt')} Presence.{presence(f)}"
+    lines = ""
+    for kind, fields in g.kinds.items():
+        rows = " ∷\n    ".join(rule(f) for f in fields)
+        lines += f"row_of kind.{kind} =\n    {rows} ∷ []\n" if fields else f"row_of kind.{kind} = []\n"
+    return f"""-- {NOTE}
+use Rattle.std.specs.Prelude.{{List, [], ◌∷◌, codes}}
+use Rattle.oxt_table.specs.Field.{{Field, field}}
+use Rattle.oxt_table.specs.declared.kind.Kind.{{Kind}}
+use Rattle.oxt_table.specs.declared.kind.Kind.TheVariants as kind
+use Rattle.oxt_table.specs.declared.category.Category.TheVariants as Category
+use Rattle.oxt_table.specs.declared.word.Words.TheVariants as Words
+use Rattle.oxt_table.specs.declared.holds.Holds.TheVariants as Holds
+use Rattle.oxt_table.specs.declared.holds.Presence.TheVariants as Presence
+
+-- the fields of a node of a kind, in the order in which they are checked
+unfoldable pub row_of : Kind → List Field
+{lines}"""
+
+
+def unbuilt_source(g):
+    arms = "\n".join(f"        Kind::{k} => {'true' if k in g.unbuilt else 'false'}," for k in g.kinds)
+    return f"""// {NOTE}
+ghost use Rattle.std.specs.Prelude.{{◌≡◌}};
+ghost use Rattle.oxt_erase.specs.UnbuiltKinds.{{is_unbuilt_kind}};
+
+use oxt_table::kind::Kind;
+
+/// Whether no node of the kind is transformed yet.
+pub fn is_unbuilt(kind: Kind) -> bool
+    ensures {{ result ≡ is_unbuilt_kind kind }}
+{{
+    match kind {{
+{arms}
+    }}
+}}
+"""
+
+
+def unbuilt_spec(g):
+    kinds = "\n".join(f"is_unbuilt_kind {k} = {'true' if k in g.unbuilt else 'false'}" for k in g.kinds)
+    return f"""-- {NOTE}
+use Rattle.std.specs.Prelude.{{Bool, true, false}}
+use Rattle.oxt_table.specs.declared.kind.Kind.{{Kind}}
+use Rattle.oxt_table.specs.declared.kind.Kind.TheVariants.{{{", ".join(g.kinds)}}}
+
+-- no node of the kind is transformed yet
+abbrev pub is_unbuilt_kind : Kind → Bool
+{kinds}
+"""
+
+
+def field_text(f):
+    argument = "" if f.argument is None else f.argument
+    forms = {
+        "Text": "text", "TextOrNull": "text or null", "Flag": "flag", "WholeOrNull": "whole number or null",
+        "Word": f"one of {argument}", "WordOrNull": f"one of {argument}, or null",
+        "Node": argument, "NodeOrNull": f"{argument} or null", "List": f"list of {argument}",
+        "ListOfNullable": f"list of {argument} and nulls", "ListOrNull": f"list of {argument}, or null",
+    }
+    if f.holds == "Narrowed":
+        holds = f"{argument[0]}, in a named export without source {argument[1]}"
+    else:
+        holds = forms[f.holds]
+    marks = (["has to be there"] if f.required else []) + (["TypeScript's"] if f.typescript else [])
+    return f"| `{f.name}` | {holds} | {', '.join(marks)} |\n"
+
+
+def grammar_doc(g):
+    words = "".join(f"| {n} | {', '.join(f'`{w}`' for w in ws)} |\n" for n, ws in g.words.items())
+    categories = "".join(f"- **{c}**: {', '.join(ks)}\n" for c, ks in g.categories.items() if ks != [c])
+    kinds = ""
+    for kind, fields in g.kinds.items():
+        notes = ["TypeScript's"] if g.is_typescript(kind) else []
+        notes += [f"condition {g.condition(kind)}"] if g.condition(kind) != "Nothing" else []
+        kinds += f"\n### {kind}\n\n" + (f"{'; '.join(notes)}.\n\n" if notes else "")
+        if fields:
+            kinds += "| Field | Holds | |\n|---|---|---|\n" + "".join(map(field_text, fields))
+        else:
+            kinds += "No fields are read.\n"
+    return f"""# The grammar of the tree
+
+{NOTE}
+
+A node is a JSON object with `type` (its kind), `start` and `end` (whole numbers below 2^32, 0 where they are left
+out) and the fields of its kind. Unknown fields are ignored; of two equal keys the last counts. A field that need not
+be there stands at its default where it is left out: null, false, the first word, or the empty list. A tree is checked
+node by node: that it is an object, its `type`, `start`, `end`, the fields in the order below, each with all that it
+holds, and then its condition. The first wrong value is the one that is named.
+
+## Words
+
+| List | Words |
+|---|---|
+{words}
+## Categories
+
+{categories}
+## Conditions
+
+| Condition | The node fails | at |
+|---|---|---|
+| ElementKey | where a name or a private name is a computed key, or another key but a text, a number or a big integer is not | `computed` |
+| PlainKey, TargetKey | the same, and where a private name is the key | `computed` |
+| Number | with neither a value nor a raw text | `value` |
+| Chain | where its element is a `!` that holds, through wrappers and parentheses, neither a call nor a member | `expression` |
+| Template | unless it has one text more than expressions | `quasis` |
+| EnumMember | where a template names it that is not computed, has an expression or has no cooked text, or a computed name | `id` |
+| Constructors | with two constructors that have a body, or a static one | `body` |
+| NamedDeclaration | without a name, unless it stands directly in a default export | `id` |
+| LiteralType | where a sign stands before anything but a number, a big integer or a text | `literal` |
+
+## Kinds
+{kinds}"""
+
+
+def write(path, text, check):
+    full = os.path.join(ROOT, path)
+    old = open(full, encoding="utf-8").read() if os.path.exists(full) else None
+    if old == text:
+        return True
+    if check:
+        print(f"{path} is not what grammar/grammar.txt gives: run tools/grammar.py")
+        return False
+    os.makedirs(os.path.dirname(full), exist_ok=True)
+    with open(full, "w", encoding="utf-8") as out:
+        out.write(text)
+    return True
+
+
+def main():
+    check = "--check" in sys.argv[1:]
+    g = Grammar(open(os.path.join(ROOT, "grammar/grammar.txt"), encoding="utf-8").read())
+    table = "crates/oxt_table/"
+    files = {
+        table + "src/kind.rt": kind_source(g),
+        table + "src/category.rt": category_source(g),
+        table + "src/word.rt": word_source(g),
+        table + "src/context.rt": context_source(g),
+        table + "specs/Context.antt": context_spec(g),
+        table + "src/row.rt": row_source(g),
+        table + "specs/Kinds.antt": kinds_spec(g),
+        table + "specs/Words.antt": words_spec(g),
+        table + "specs/Rows.antt": rows_spec(g),
+        table + "specs/Categories.antt": categories_spec(g),
+        "docs/GRAMMAR.md": grammar_doc(g),
+        "crates/oxt_erase/src/unbuilt_kinds.rt": unbuilt_source(g),
+        "crates/oxt_erase/specs/UnbuiltKinds.antt": unbuilt_spec(g),
+    }
+    sys.exit(0 if all([write(path, text, check) for path, text in files.items()]) else 1)
+
+
+if __name__ == "__main__":
+    main()
