@@ -21,7 +21,7 @@ class Field:
 class Grammar:
     def __init__(self, text):
         self.words, self.categories, self.kinds = {}, {}, {}
-        self.conditions, self.settings = {}, {}
+        self.conditions, self.settings, self.rules = {}, {}, {}
         self.typescript, self.typescript_of, self.unbuilt = set(), set(), set()
         for line in text.splitlines():
             self.take(line.split("#")[0].strip())
@@ -47,6 +47,9 @@ class Grammar:
         elif first in ("condition", "setting"):
             name, kinds = rest.split(" = ")
             (self.conditions if first == "condition" else self.settings)[name] = kinds.split()
+        elif first == "rule":
+            rule, kinds = rest.split(" = ")
+            self.rules |= {k: rule.replace("~", " ") for k in kinds.split()}
         elif first == "unbuilt":
             self.unbuilt |= set(rest.split())
         elif first == "typescript":
@@ -475,6 +478,55 @@ abbrev pub is_unbuilt_kind : Kind → Bool
 """
 
 
+def rule_term(rule, spec):
+    """A rule such as `Spelled Str`, whose argument is a mark, a binding or a flag."""
+    name, _, argument = rule.partition(" ")
+    of = {"Spelled": "Mark", "Literal": "Mark", "Binds": "Binding"}.get(name)
+    argument = argument if of is None else f"{of.lower()}.{argument}" if spec else f"{of}::{argument}"
+    if spec:
+        return f"(rule.{name} {argument})" if argument else f"rule.{name}"
+    return f"Rule::{name}({argument})" if argument else f"Rule::{name}"
+
+
+def word_rules_source(g):
+    arms = "\n".join(f"        Kind::{k} => {rule_term(g.rules.get(k, 'Plain'), False)}," for k in g.kinds)
+    return f"""// {NOTE}
+ghost use Rattle.std.specs.Prelude.{{◌≡◌}};
+ghost use Rattle.oxt_word.specs.RuleOf.{{rule_of}};
+
+use crate::rule::Rule;
+use oxt_item::item::{{Binding, Mark}};
+use oxt_table::kind::Kind;
+
+/// The rule by which nodes of the kind are read.
+#[tactic(auto, unfolding(crate::specs::RuleOf::rule_of))]
+pub fn rule_of(kind: Kind) -> Rule
+    ensures {{ result ≡ rule_of kind }}
+{{
+    match kind {{
+{arms}
+    }}
+}}
+"""
+
+
+def word_rules_spec(g):
+    kinds = "\n".join(f"rule_of {k} = {rule_term(g.rules.get(k, 'Plain'), True)}" for k in g.kinds)
+    return f"""-- {NOTE}
+use Rattle.std.specs.Prelude.{{true, false}}
+use Rattle.oxt_table.specs.declared.kind.Kind.{{Kind}}
+use Rattle.oxt_table.specs.declared.kind.Kind.TheVariants.{{{", ".join(g.kinds)}}}
+use Rattle.oxt_item.specs.declared.item.Binding.TheVariants as binding
+use Rattle.oxt_item.specs.declared.item.Mark.TheVariants as mark
+use Rattle.oxt_word.specs.declared.rule.Rule.{{Rule}}
+use Rattle.oxt_word.specs.declared.rule.Rule.TheVariants as rule
+
+-- the rule by which nodes of the kind are read
+unfoldable pub rule_of : Kind → Rule
+{kinds}
+"""
+
+
 def field_text(f):
     argument = "" if f.argument is None else f.argument
     forms = {
@@ -539,6 +591,80 @@ holds, and then its condition. The first wrong value is the one that is named.
 {kinds}"""
 
 
+# the kinds whose fields have accessors
+VIEWED = """Program ExpressionStatement IfStatement ForStatement ForInStatement ForOfStatement WhileStatement
+DoWhileStatement LabeledStatement WithStatement VariableDeclaration VariableDeclarator ParenthesizedExpression
+TSAsExpression TSSatisfiesExpression TSTypeAssertion TSNonNullExpression TSInstantiationExpression""".split()
+
+# the reserved words among the names of fields
+RESERVED = "abstract async await const override static type".split()
+
+
+def accessor(name):
+    """The accessor of the field; `id` is the node's own number."""
+    name = {"id": "binding"}.get(name, snake(name))
+    return name + "_" if name in RESERVED else name
+
+
+def view_clause(name, kind):
+    """The clause of an accessor, within 100 columns."""
+    fact = f"part_named (codes \"{name}\") kind.{kind} node.now"
+    line = f"        ensures {{ doc_or_nil result ≡ {fact} }}"
+    return line if len(line) <= 100 else f"        ensures {{ doc_or_nil result\n            ≡ {fact} }}"
+
+
+def view_source(g):
+    modules = ""
+    for kind in VIEWED:
+        functions = "\n".join(f"""    /// The field `{f.name}`.
+    pub fn {accessor(f.name)}(node: &Node) -> Option<&Part>
+{view_clause(f.name, kind)}
+    {{
+        node.at({place})
+    }}
+""" for place, f in enumerate(g.kinds[kind]))
+        modules += f"""
+/// The fields of a node of kind `{kind}`.
+#[tactic(auto, using(crate::proofs::ViewRows::{snake(kind)}))]
+pub mod {snake(kind)} {{
+    use oxt_tree::tree::{{Node, Part}};
+
+{functions}}}
+"""
+    return f"""// {NOTE}
+//! The fields of nodes, by the names that the grammar gives them. Each accessor reads the place
+//! that the field has in nodes of that kind.
+#![tactic(auto)]
+
+ghost use Rattle.std.specs.Prelude.{{◌≡◌, codes}};
+ghost use Rattle.oxt_table.specs.declared.kind.Kind.TheVariants as kind;
+ghost use Rattle.oxt_tree.specs.View.{{doc_or_nil, part_named}};
+
+#[cfg(test)]
+mod tests;
+{modules}"""
+
+
+def view_rows(g):
+    lemmas = ""
+    for kind in VIEWED:
+        names = " ∷ ".join(f"codes \"{f.name}\"" for f in g.kinds[kind])
+        lemmas += f"""
+pub {snake(kind)}_names : names_of kind.{kind} ≡ {names} ∷ []
+unfolding row_of names_of
+{snake(kind)}_names = refl
+
+pub ruleset {snake(kind)} = (named_place, {snake(kind)}_names)
+"""
+    return f"""-- {NOTE}
+-- The names of the fields of the kinds that have accessors.
+use Rattle.std.proofs.Common.{{◌≡◌, refl, [], ◌∷◌, codes}}
+use Rattle.oxt_table.specs.Rows.{{row_of}}
+use Rattle.oxt_table.specs.declared.kind.Kind.TheVariants as kind
+use Rattle.oxt_tree.proofs.Places.{{names_of, named_place}}
+{lemmas}"""
+
+
 def write(path, text, check):
     full = os.path.join(ROOT, path)
     old = open(full, encoding="utf-8").read() if os.path.exists(full) else None
@@ -568,9 +694,13 @@ def main():
         table + "specs/Words.antt": words_spec(g),
         table + "specs/Rows.antt": rows_spec(g),
         table + "specs/Categories.antt": categories_spec(g),
+        "crates/oxt_view/src/lib.rt": view_source(g),
+        "crates/oxt_view/proofs/ViewRows.antt": view_rows(g),
         "docs/GRAMMAR.md": grammar_doc(g),
         "crates/oxt_erase/src/unbuilt_kinds.rt": unbuilt_source(g),
         "crates/oxt_erase/specs/UnbuiltKinds.antt": unbuilt_spec(g),
+        "crates/oxt_word/src/rule_of.rt": word_rules_source(g),
+        "crates/oxt_word/specs/RuleOf.antt": word_rules_spec(g),
     }
     sys.exit(0 if all([write(path, text, check) for path, text in files.items()]) else 1)
 

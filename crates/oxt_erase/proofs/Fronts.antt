@@ -1,7 +1,8 @@
 -- Editing a list of parts from its front, one part after the other.
 use Rattle.std.proofs.Common.{◌≡◌, ℕ, zero, suc, ◌+◌, ◌<◌, List, [], ◌∷◌, length, get_or, map, min, Bool, true, false, not, cond, filter, refl, ap, ◌∙◌, add-one, arith}
 use Rattle.std.proofs.Math.ListN.{set}
-use Rattle.oxt_erase.specs.Erased.{cleared, erased, erased_elements, erased_fields, is_erased, unwrapped}
+use Rattle.oxt_erase.specs.Erased.{cleared, erased, erased_elements, erased_fields, unwrapped}
+use Rattle.oxt_tree.specs.Syntax.{is_mere_declaration}
 use Rattle.oxt_table.specs.Field.{Field, row_view}
 use Rattle.oxt_table.specs.Rows.{row_of}
 use Rattle.oxt_table.specs.declared.holds.Row.{Row}
@@ -70,9 +71,9 @@ list_step : (b : Bool) (p : Part) (kept : List Part) (rest : Docs) → front in_
 list_step true p kept rest e = e
 list_step false p kept rest e = ap (doc (unwrapped (erased (part_doc p)))) e
 
-list_done : (ps : List Part) → front in_list (length (filter (λ p. not (is_erased (part_doc p))) ps)) (docs_in (filter (λ p. not (is_erased (part_doc p))) ps)) ≡ erased_elements (docs_in ps)
+list_done : (ps : List Part) → front in_list (length (filter (λ p. not (is_mere_declaration (part_doc p))) ps)) (docs_in (filter (λ p. not (is_mere_declaration (part_doc p))) ps)) ≡ erased_elements (docs_in ps)
 list_done [] = refl
-list_done (p ∷ ps) = list_step (is_erased (part_doc p)) p (filter (λ p. not (is_erased (part_doc p))) ps) (erased_elements (docs_in ps)) (list_done ps)
+list_done (p ∷ ps) = list_step (is_mere_declaration (part_doc p)) p (filter (λ p. not (is_mere_declaration (part_doc p))) ps) (erased_elements (docs_in ps)) (list_done ps)
 
-pub all_elements : (ps kept done : List Part) (n : ℕ) → kept ≡ filter (λ p. not (is_erased (part_doc p))) ps → n ≡ length kept → docs_in done ≡ front in_list n (docs_in kept) → docs_in done ≡ erased_elements (docs_in ps)
+pub all_elements : (ps kept done : List Part) (n : ℕ) → kept ≡ filter (λ p. not (is_mere_declaration (part_doc p))) ps → n ≡ length kept → docs_in done ≡ front in_list n (docs_in kept) → docs_in done ≡ erased_elements (docs_in ps)
 all_elements ps kept done n left last e = e ∙ (ap (λ m. front in_list m (docs_in kept)) last ∙ (ap (λ qs. front in_list (length qs) (docs_in qs)) left ∙ list_done ps))

@@ -1,19 +1,15 @@
 -- What erasing TypeScript makes of a document.
-use Rattle.std.specs.Prelude.{List, [], ◌∷◌, Bool, true, false, ◌&&◌, ◌||◌, if◌then◌else◌, codes}
+use Rattle.std.specs.Prelude.{List, [], ◌∷◌, Bool, true, false, if◌then◌else◌, codes}
 use Rattle.oxt_table.specs.Field.{Field, is_typescript_field}
 use Rattle.oxt_table.specs.Rows.{row_of}
 use Rattle.oxt_table.specs.declared.category.Category.TheVariants as category
 use Rattle.oxt_table.specs.declared.holds.Holds.{Holds}
 use Rattle.oxt_table.specs.declared.holds.Holds.TheVariants as holds
-use Rattle.oxt_table.specs.declared.kind.Kind.TheVariants as kind
 use Rattle.oxt_table.specs.declared.word.Words.TheVariants as words
-use Rattle.oxt_tree.specs.Condition.{seen}
+use Rattle.oxt_tree.specs.Inner.{seen}
+use Rattle.oxt_tree.specs.Syntax.{is_mere_declaration}
 use Rattle.oxt_tree.specs.Doc.{Doc, nil, flag, number, text, list, node, Docs, no_docs, doc}
-use Rattle.oxt_tree.specs.Fields.{default_of, field_of, is_in, is_kind, is_set}
-
--- a statement that stands for nothing at run time: a type alias, an interface, or variables that are only declared
-abbrev pub is_erased : Doc → Bool
-is_erased d = is_kind kind.TSTypeAliasDeclaration d || (is_kind kind.TSInterfaceDeclaration d || (is_kind kind.VariableDeclaration d && is_set (field_of (codes "declare") d)))
+use Rattle.oxt_tree.specs.Fields.{default_of, is_in}
 
 -- in the place of a wrapper the innermost expression in it, through wrappers and parentheses
 abbrev pub unwrapped : Doc → Doc
@@ -50,4 +46,4 @@ abbrev mutual
   -- each document as an element of a list
   pub erased_elements : Docs → Docs
   erased_elements no_docs = no_docs
-  erased_elements (doc d ds) = if is_erased d then erased_elements ds else doc (unwrapped (erased d)) (erased_elements ds)
+  erased_elements (doc d ds) = if is_mere_declaration d then erased_elements ds else doc (unwrapped (erased d)) (erased_elements ds)

@@ -3,7 +3,8 @@ use Rattle.std.specs.Prelude.{ℕ, List, [], ◌∷◌, ◌++◌, Bool, true, fa
 use Rattle.std.specs.List.{list_any}
 use Rattle.std.specs.Option.{option_or}
 use Rattle.std.specs.Str.{bytes_eq}
-use Rattle.oxt_erase.specs.Erased.{is_erased, is_language}
+use Rattle.oxt_erase.specs.Erased.{is_language}
+use Rattle.oxt_tree.specs.Syntax.{is_mere_declaration}
 use Rattle.oxt_erase.specs.UnbuiltKinds.{is_unbuilt_kind}
 use Rattle.oxt_table.specs.Field.{Field, is_typescript_field}
 use Rattle.oxt_table.specs.Kinds.{name_of}
@@ -36,7 +37,7 @@ is_target c = false
 
 -- an erased statement in a field of its own
 abbrev pub is_lone : Category → Doc → Bool
-is_lone c d = is_single c && is_erased d
+is_lone c d = is_single c && is_mere_declaration d
 
 -- a wrapper as a target
 abbrev pub is_wrapped_target : Category → Doc → Bool

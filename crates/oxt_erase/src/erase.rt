@@ -1,14 +1,14 @@
 //! Erasing TypeScript, in place.
 ghost use Rattle.std.specs.Prelude.{◌≡◌, filter, not};
-ghost use Rattle.oxt_erase.specs.Erased.{cleared, erased, erased_elements, is_erased, unwrapped};
+ghost use Rattle.oxt_erase.specs.Erased.{cleared, erased, erased_elements, unwrapped};
+ghost use Rattle.oxt_tree.specs.Syntax.{is_mere_declaration};
 ghost use Rattle.oxt_table.specs.Field.{row_view};
-ghost use Rattle.oxt_tree.specs.Condition.{seen};
+ghost use Rattle.oxt_tree.specs.Inner.{seen};
 ghost use Rattle.oxt_tree.specs.View.{docs_in, node_doc, part_doc};
 
-use crate::rows::{is_language, is_typescript};
+use crate::rows::is_language;
 use oxt_table::category::Category;
 use oxt_table::holds::Row;
-use oxt_table::kind::Kind;
 use oxt_table::word::Word;
 use oxt_tree::fields::default_part;
 use oxt_tree::tree::{Node, Part, Program};
@@ -39,7 +39,7 @@ fn erase_node(alloc: Global, node: &mut Node)
 fn erase_field(alloc: Global, row: &Row, part: &mut Part)
     ensures { part_doc part.new ≡ cleared (row_view row.now) (unwrapped (erased (part_doc part.old))) }
 {
-    if is_typescript(row.presence) {
+    if row.presence.is_typescript() {
         *part = default_part(alloc, row.holds);
     } else if is_language(row.holds) {
         *part = Part::Word(Word::Js);
@@ -74,28 +74,9 @@ fn erase_list(alloc: Global, parts: &mut Vec<Part>)
 
 /// Drops the erased statements of a list.
 fn drop_erased(parts: &mut Vec<Part>)
-    ensures { parts.new.items ≡ filter (λ part. not (is_erased (part_doc part))) parts.old.items }
+    ensures { parts.new.items ≡ filter (λ part. not (is_mere_declaration (part_doc part))) parts.old.items }
 {
-    parts.retain(|part| !is_erased(part));
-}
-
-/// Whether the part is a statement that stands for nothing at run time.
-fn is_erased(part: &Part) -> bool
-    ensures { result ≡ is_erased (part_doc part.now) }
-{
-    match part {
-        Part::Node(node) => is_erased_node(node),
-        _ => false,
-    }
-}
-
-/// Whether the node is a statement that stands for nothing at run time.
-pub fn is_erased_node(node: &Node) -> bool
-    ensures { result ≡ is_erased (node_doc node.now) }
-{
-    node.kind.is(Kind::TSTypeAliasDeclaration)
-        || (node.kind.is(Kind::TSInterfaceDeclaration)
-            || (node.kind.is(Kind::VariableDeclaration) && node.flag("declare")))
+    parts.retain(|part| !part.is_mere_declaration());
 }
 
 /// Puts the innermost expression in the place of a wrapper.

@@ -6,8 +6,7 @@ ghost use Rattle.oxt_table.specs.Field.{row_view};
 ghost use Rattle.oxt_tree.specs.Names.{name_bytes};
 ghost use Rattle.oxt_tree.specs.View.{docs_in, node_doc, part_doc};
 
-use crate::erase::is_erased_node;
-use crate::rows::{is_language, is_typescript};
+use crate::rows::is_language;
 use crate::unbuilt_kinds::is_unbuilt;
 use oxt_table::category::Category;
 use oxt_table::holds::{Holds, Presence, Row};
@@ -136,7 +135,7 @@ fn form_of_field(kind: Kind, row: &Row, part: &Part) -> Option<Form>
 {
     if is_language(row.holds) && part.is_text("dts") {
         Some(Form::Definitions)
-    } else if is_typescript(row.presence)
+    } else if row.presence.is_typescript()
         && (!part.is_default(row.holds) && is_unbuilt_name(kind, row.name))
     {
         Some(Form::Field(kind, row.name))
@@ -174,9 +173,9 @@ fn is_lone(category: Category, node: &Node) -> bool
     ensures { result ≡ is_lone category (node_doc node.now) }
 {
     match category {
-        Category::Statement => is_erased_node(node),
-        Category::ForStatementInit => is_erased_node(node),
-        Category::ForStatementLeft => is_erased_node(node),
+        Category::Statement => node.is_mere_declaration(),
+        Category::ForStatementInit => node.is_mere_declaration(),
+        Category::ForStatementLeft => node.is_mere_declaration(),
         _ => false,
     }
 }

@@ -6,7 +6,7 @@ use Rattle.oxt_table.specs.Words.{text_of, words_in}
 use Rattle.oxt_table.specs.declared.word.Word.{Word}
 use Rattle.oxt_table.specs.declared.word.Words.{Words}
 use Rattle.oxt_tree.specs.Doc.{text}
-use Rattle.oxt_tree.specs.Valid.{is_among}
+use Rattle.oxt_valid.specs.Valid.{is_among}
 
 found_at : {W A : Type 0} (text_of : W → List ℕ) (f : List ℕ → A) (t : List ℕ) (w : W) (ws : List W) (b : Bool) → bytes_eq (text_of w) t ≡ b
     → option_map (λ v. f (text_of v)) (find (λ v. bytes_eq (text_of v) t) ws) ≡ cond (list_any (λ v. bytes_eq (text_of v) t) ws) (Some (f t)) None

@@ -1,13 +1,10 @@
 -- What comes of reading a value.
-use Rattle.std.specs.Prelude.{ℕ, List, [], ◌++◌, codes, Option, None, Some, Result, Ok, Err}
+use Rattle.std.specs.Prelude.{ℕ, List, [], Option, None, Some, Result, Ok, Err}
+use Rattle.oxt_tree.specs.Pointer.{at_key}
 
 -- what was read and the next number of a node, or the place of the first wrong value: a JSON pointer from the value that is read
 abbrev pub Answer : Type 0 → Type 0
 Answer A = Result (A × ℕ) (List ℕ)
-
--- the place of what stands below a key or an index
-abbrev pub at_key : List ℕ → List ℕ → List ℕ
-at_key name place = codes "/" ++ name ++ place
 
 -- what stands at a key was read: a fault's place begins with the key
 abbrev pub below : {A : Type 0} → List ℕ → Answer A → Answer A

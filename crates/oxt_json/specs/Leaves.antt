@@ -8,7 +8,7 @@ use Rattle.oxt_table.specs.declared.holds.Holds.{Holds}
 use Rattle.oxt_table.specs.declared.kind.Kind.{Kind}
 use Rattle.oxt_tree.specs.Doc as doc
 use Rattle.oxt_tree.specs.Doc.{Doc}
-use Rattle.oxt_tree.specs.Valid.{allows_text}
+use Rattle.oxt_valid.specs.Valid.{allows_text}
 
 abbrev pub null_doc : Holds → Option Doc
 null_doc h = if allows_null h then Some doc.nil else None

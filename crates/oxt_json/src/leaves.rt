@@ -4,7 +4,7 @@ ghost use Rattle.serde_json.specs.View.{number_view};
 ghost use Rattle.oxt_table.specs.Field.{row_view};
 ghost use Rattle.oxt_table.specs.Places.{words_of};
 ghost use Rattle.oxt_tree.specs.Doc as doc;
-ghost use Rattle.oxt_tree.specs.Valid.{is_among};
+ghost use Rattle.oxt_valid.specs.Valid.{is_among};
 ghost use Rattle.oxt_tree.specs.View.{part_doc};
 ghost use Rattle.oxt_json.specs.Leaves.{null_doc, flag_doc, number_doc, text_doc};
 ghost use Rattle.oxt_json.specs.Reading.{missing_doc};

@@ -1,9 +1,10 @@
 //! Why a reader gives up, with a place that grows on the way out.
-ghost use Rattle.std.specs.Prelude.{◌≡◌, IfOk, [], string_bytes};
+ghost use Rattle.std.specs.Prelude.{◌≡◌, []};
 ghost use Rattle.std.specs.Fmt.{decimal};
-ghost use Rattle.oxt_json.specs.Answer.{at_key};
+ghost use Rattle.oxt_tree.specs.Pointer.{at_key};
 
 use oxt_tree::ids;
+use oxt_tree::pointer::{below, below_index};
 use std::alloc::{AllocError, AllocFailed, Global};
 
 /// Why a value could not be read.
@@ -29,7 +30,7 @@ impl Misread {
     pub fn at(alloc: Global, key: &str) -> Misread
         ensures { IsAt (at_key key.now []) result }
     {
-        match joined(alloc, key, "") {
+        match below(alloc, key, "") {
             Ok(place) => Misread::At(place),
             Err(_) => Misread::OutOfMemory,
         }
@@ -42,7 +43,7 @@ impl Misread {
         let Misread::At(rest) = self else {
             return Misread::OutOfMemory;
         };
-        match joined(alloc, key, rest.as_str()) {
+        match below(alloc, key, rest.as_str()) {
             Ok(place) => Misread::At(place),
             Err(_) => Misread::OutOfMemory,
         }
@@ -52,8 +53,11 @@ impl Misread {
     pub fn below_index(self, alloc: Global, index: usize) -> Misread
         ensures { IsBelow (decimal index) self result }
     {
-        match index.to_string(alloc) {
-            Ok(key) => self.below(alloc, key.as_str()),
+        let Misread::At(rest) = self else {
+            return Misread::OutOfMemory;
+        };
+        match below_index(alloc, index, rest.as_str()) {
+            Ok(place) => Misread::At(place),
             Err(_) => Misread::OutOfMemory,
         }
     }
@@ -87,14 +91,4 @@ impl<T: Drop> From<AllocFailed<T>> for Misread {
     fn from(_error: AllocFailed<T>) -> Misread {
         Misread::OutOfMemory
     }
-}
-
-// The pointer to what stands at `rest` below a key. No key of the grammar has a `~` or a `/`.
-fn joined(alloc: Global, key: &str, rest: &str) -> Result<String, AllocError>
-    ensures { IfOk result (λ place. string_bytes place ≡ at_key key.now rest.now) }
-{
-    let mut place = String::from_str(alloc, "/")?;
-    place.push_str(key)?;
-    place.push_str(rest)?;
-    Ok(place)
 }

@@ -15,9 +15,9 @@ use crate::misread::Misread;
 use oxt_table::category::Category;
 use oxt_table::context::Setting;
 use oxt_table::holds::{Holds, Row};
-use oxt_tree::condition::fault;
 use oxt_tree::ids::NodeIds;
 use oxt_tree::tree::{Node, Part};
+use oxt_valid::condition::fault;
 use serde_json::{Map, Value};
 use std::alloc::Global;
 

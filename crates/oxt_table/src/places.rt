@@ -1,10 +1,11 @@
 //! What may stand at a place, by what the node around it is.
 ghost use Rattle.std.specs.Prelude.{◌≡◌};
+ghost use Rattle.oxt_table.specs.Field.{is_typescript_field};
 ghost use Rattle.oxt_table.specs.Places.{kind_in, narrow, same_kind, element_of, allows_null, allows_flag, allows_any_text, words_of, allows_number, category_of};
 
 use crate::category::Category;
 use crate::context::Setting;
-use crate::holds::Holds;
+use crate::holds::{Holds, Presence};
 use crate::kind::Kind;
 use crate::word::Words;
 
@@ -120,6 +121,19 @@ impl Holds {
                 Setting::Elsewhere => Holds::Node(wide),
             },
             other => other,
+        }
+    }
+}
+
+impl Presence {
+    /// Whether only TypeScript has such a field.
+    pub fn is_typescript(self) -> bool
+        ensures { result ≡ is_typescript_field self }
+    {
+        match self {
+            Presence::TypeScript => true,
+            Presence::Required => false,
+            Presence::Optional => false,
         }
     }
 }

@@ -1,48 +1,76 @@
 -- What each step of the work says of the bytes.
-use Rattle.std.proofs.Common.{◌≡◌, ℕ, List, Bool, true, false, ◌&&◌, cond, None, Some, refl, ap, ◌∙◌}
+use Rattle.std.proofs.Common.{◌≡◌, ℕ, List, Bool, true, false, Option, None, Some, refl, ap, ◌∙◌, sym, subst}
+use Rattle.std.proofs.lemmas.Bool.{false≢true}
+use Rattle.std.specs.Prelude.{slice_get}
 use Rattle.oxt_erase.specs.Erased.{erased}
 use Rattle.oxt_erase.specs.Unbuilt.{unbuilt}
-use Rattle.oxt_json.specs.Faults.{OnJson, IfShape}
-use Rattle.oxt_json.specs.Spelling.{no_value, wrong, tree, reading}
-use Rattle.oxt_json.specs.declared.read.ReadFault.{ReadFault}
-use Rattle.oxt_json.specs.declared.read.ReadFault.TheVariants as read_fault
-use Rattle.oxt_transform.specs.Faults.{read_refusal, IsReasonFor}
-use Rattle.oxt_transform.specs.Refusals.{unbuilt_form, uncertified, refusal_of, refusal_of_reading, refusal_of_form, passes}
+use Rattle.oxt_json.specs.Spelling.{Reading, no_value, wrong, tree, reading}
+use Rattle.oxt_io.specs.Counts.{Rose}
+use Rattle.oxt_io.specs.Passed.{GaveAll}
+use Rattle.oxt_transform.specs.Faults.{refusal_in, IsReasonFor}
+use Rattle.oxt_transform.specs.Outcomes.{IfRefused, IsDoneOrMemory, IsRefusedMemoryOrWriteFault, NothingStands, OnWriteFault, Reported}
+use Rattle.oxt_transform.specs.declared.program.Outcome.{Outcome}
+use Rattle.oxt_transform.specs.declared.program.Outcome.TheVariants.{Done, Refused, Usage, ReadFault, WriteFault, Memory, TooLong}
+use Rattle.oxt_transform.specs.Refusals.{Difference, misfit_at, typescript_at, item_at, Refusal, json, shape, unbuilt_form, uncertified, Judges, HasUnbuilt, IsTested, Refuses, Accepts}
 use Rattle.oxt_tree.specs.Doc.{Doc}
-use Rattle.oxt_tree.specs.Names.{name_bytes}
-use Rattle.oxt_tree.specs.Plain.{is_plain}
-use Rattle.oxt_tree.specs.Valid.{is_tree}
-use Rattle.std.proofs.lemmas.Bool.{false≢true}
+use Rattle.oxt_tree.specs.declared.name.Name.{Name}
+use Rattle.oxt_valid.proofs.Decisions.{no_tree, not_plain}
+use Rattle.oxt_valid.specs.Plain.{is_plain}
+use Rattle.oxt_valid.specs.Valid.{is_tree}
+use Rattle.oxt_item.specs.Entry.{Entry}
+use Rattle.oxt_word.specs.Word.{word}
 
--- A fault of reading is the reason.
-pub read_reason : (f : ReadFault) (bytes : List ℕ) → OnJson (reading bytes ≡ no_value) f → IfShape (λ place. reading bytes ≡ wrong (name_bytes place)) f → IsReasonFor (read_refusal f) bytes
-unfolding refusal_of
-read_reason read_fault.OutOfMemory bytes j s = tt
-read_reason read_fault.Json bytes j s = ap refusal_of_reading j
-read_reason (read_fault.Shape place) bytes j s = ap refusal_of_reading s
+same_source : (bytes : List ℕ) (a b : Doc) (m n : ℕ) → reading bytes ≡ tree a m → reading bytes ≡ tree b n → a ≡ b
+same_source bytes a b m n p q = let e : tree a m ≡ tree b n = sym p ∙ q in cc
 
--- A form that is not built is the reason.
-pub unbuilt_reason : (bytes : List ℕ) (d : Doc) (n : ℕ) (kind : List ℕ) → reading bytes ≡ tree d n → unbuilt d ≡ Some kind → refusal_of bytes ≡ Some (unbuilt_form kind)
-unfolding refusal_of
-unbuilt_reason bytes d n kind h u = ap refusal_of_reading h ∙ ap (λ o. refusal_of_form o (erased d)) u
+no_form_and_one : (o : Option (List ℕ)) (kind : List ℕ) → o ≡ Some kind → o ≡ None → ⊥
+no_form_and_one o kind p q = cc
 
--- With every form built, the test decides.
-pub tested : (bytes : List ℕ) (d : Doc) (n : ℕ) (b : Bool) → reading bytes ≡ tree d n → unbuilt d ≡ None → passes (erased d) ≡ b → refusal_of bytes ≡ cond b None (Some uncertified)
-unfolding refusal_of
-tested bytes d n b h u t = ap refusal_of_reading h ∙ ap (λ o. refusal_of_form o (erased d)) u ∙ ap (λ x. cond x None (Some uncertified)) t
+true_and_false : (b : Bool) → b ≡ true → b ≡ false → ⊥
+true_and_false b p q = false≢true (sym q ∙ p)
 
-and_left : (a b : Bool) → (a && b) ≡ true → a ≡ true
-and_left true b h = refl
-and_left false b h = h
+-- One test does not say two things.
+never_two : (d : Difference) (before : List Entry) (output : Doc) → Judges before output (Some d) → Judges before output None → ⊥
+never_two (misfit_at place) before output h k = true_and_false (is_tree output) k.0 (no_tree output place h)
+never_two (typescript_at place) before output h k = true_and_false (is_plain output) k.1 (not_plain output place h.1)
+never_two (item_at i) before output h k = h.2.1 (ap (λ (w : List Entry). slice_get w i) k.2)
 
-and_right : (a b : Bool) → (a && b) ≡ true → b ≡ true
-and_right true b h = h
-and_right false b h = absurd (false≢true h)
+nothing_read : (bytes : List ℕ) (a : Doc) (m : ℕ) → reading bytes ≡ tree a m → reading bytes ≡ no_value → ⊥
+nothing_read bytes a m p q = let e : tree a m ≡ no_value = sym p ∙ q in cc
 
--- A tree that passes is one of the grammar.
-pub passes_valid : (d : Doc) → passes d ≡ true → is_tree d ≡ true
-passes_valid d h = and_left (is_tree d) (is_plain d) h
+wrongly_read : (bytes place : List ℕ) (a : Doc) (m : ℕ) → reading bytes ≡ tree a m → reading bytes ≡ wrong place → ⊥
+wrongly_read bytes place a m p q = let e : tree a m ≡ wrong place = sym p ∙ q in cc
 
--- A tree that passes is plain.
-pub passes_plain : (d : Doc) → passes d ≡ true → is_plain d ≡ true
-passes_plain d h = and_right (is_tree d) (is_plain d) h
+-- Bytes that are refused are not accepted.
+pub never_both : (r : Refusal) (bytes : List ℕ) → Refuses r bytes → Accepts bytes → ⊥
+never_both json bytes h k = nothing_read bytes k.source k.next k.spelled h
+never_both (shape place) bytes h k = wrongly_read bytes place k.source k.next k.spelled h
+never_both (unbuilt_form kind) bytes h k =
+    let same = same_source bytes h.source k.source h.next k.next h.spelled k.spelled in
+    no_form_and_one (unbuilt k.source) kind (sym (ap unbuilt same) ∙ h.form) k.built
+never_both (uncertified d) bytes h k =
+    let same = same_source bytes h.source k.source h.next k.next h.spelled k.spelled in
+    never_two d (word k.source) (erased k.source) (subst (λ (s : Doc). Judges (word s) (erased s) (Some d)) same h.judged) k.judged
+
+same_bytes : (left left' : Option (List ℕ)) (bytes held : List ℕ) → GaveAll left left' bytes → left ≡ Some held → bytes ≡ held
+same_bytes None left' bytes held all e = cc
+same_bytes (Some had) left' bytes held all e = let f : had ≡ bytes = all.0 in cc
+
+-- Where nothing stands in the way, a refusal cannot come, and so the run ends well or for want of
+-- memory.
+pub completes : (o : Outcome) (came : Option Refusal) (words : List Name) (left left' taken taken' : Option (List ℕ)) (read read' wrote wrote' told told' : ℕ) (bytes : List ℕ)
+    → IsRefusedMemoryOrWriteFault o
+    → IfRefused o (λ f. Reported came (refusal_in f) taken taken')
+    → OnWriteFault o (Rose told told')
+    → IsReasonFor came bytes
+    → GaveAll left left' bytes
+    → NothingStands words left read read' wrote wrote' told told'
+    → IsDoneOrMemory o
+completes (Refused f) came words left left' taken taken' read read' wrote wrote' told told' bytes only reported rose reason all stands =
+    never_both reported.refusal bytes (subst (λ (r : Option Refusal). IsReasonFor r bytes) (reported.same ∙ reported.is) reason) (subst Accepts (sym (same_bytes left left' bytes stands.bytes all stands.holds)) stands.accepted)
+completes Memory came words left left' taken taken' read read' wrote wrote' told told' bytes only reported rose reason all stands = tt
+completes WriteFault came words left left' taken taken' read read' wrote wrote' told told' bytes only reported rose reason all stands = absurd (stands.told_well rose)
+completes Done came words left left' taken taken' read read' wrote wrote' told told' bytes only reported rose reason all stands = tt
+completes Usage came words left left' taken taken' read read' wrote wrote' told told' bytes only reported rose reason all stands = absurd only
+completes ReadFault came words left left' taken taken' read read' wrote wrote' told told' bytes only reported rose reason all stands = absurd only
+completes TooLong came words left left' taken taken' read read' wrote wrote' told told' bytes only reported rose reason all stands = absurd only

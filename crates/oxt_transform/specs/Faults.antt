@@ -2,7 +2,7 @@
 use Rattle.std.specs.Prelude.{◌≡◌, ℕ, List, Option, None, Some, ⊤}
 use Rattle.oxt_json.specs.declared.read.ReadFault.{ReadFault}
 use Rattle.oxt_json.specs.declared.read.ReadFault.TheVariants as read_fault
-use Rattle.oxt_transform.specs.Refusals.{Refusal, json, shape, unbuilt_form, uncertified, refusal_of}
+use Rattle.oxt_transform.specs.Refusals.{Refusal, json, shape, unbuilt_form, uncertified, difference_in, Refuses}
 use Rattle.oxt_transform.specs.declared.fault.Fault.{Fault}
 use Rattle.oxt_transform.specs.declared.fault.Fault.TheVariants as fault
 use Rattle.oxt_transform.specs.declared.transform.TransformerReturn.{TransformerReturn}
@@ -14,7 +14,7 @@ refusal_in fault.OutOfMemory = None
 refusal_in fault.Json = Some json
 refusal_in (fault.Shape place) = Some (shape (name_bytes place))
 refusal_in (fault.Unbuilt kind) = Some (unbuilt_form (name_bytes kind))
-refusal_in fault.Uncertified = Some uncertified
+refusal_in (fault.Uncertified mismatch) = Some (uncertified (difference_in mismatch))
 
 -- the same for a fault of reading
 abbrev pub read_refusal : ReadFault → Option Refusal
@@ -25,7 +25,7 @@ read_refusal (read_fault.Shape place) = Some (shape (name_bytes place))
 -- the bytes are refused for this reason; for want of memory, nothing is said
 abbrev pub IsReasonFor : Option Refusal → List ℕ → Type 0
 IsReasonFor None bytes = ⊤
-IsReasonFor (Some r) bytes = refusal_of bytes ≡ Some r
+IsReasonFor (Some r) bytes = Refuses r bytes
 
 -- the bytes of an answer
 abbrev pub text_in : TransformerReturn → List ℕ

@@ -4,10 +4,11 @@ use Rattle.oxt_erase.specs.Erased.{erased}
 use Rattle.oxt_json.specs.Spelling.{reading, tree}
 use Rattle.oxt_json_write.specs.Spelled.{text_of}
 use Rattle.oxt_tree.specs.Doc.{Doc}
-use Rattle.oxt_tree.specs.Plain.{is_plain}
-use Rattle.oxt_tree.specs.Valid.{is_tree}
+use Rattle.oxt_valid.specs.Plain.{is_plain}
+use Rattle.oxt_valid.specs.Valid.{is_tree}
+use Rattle.oxt_word.specs.Word.{word}
 
--- The bytes spell a source tree, and the text is that of a valid and plain tree, the source without its types.
+-- The bytes spell a source tree, and the text is that of a valid and plain tree that has the source's effect word: the source without its types.
 pub record Lowers (bytes text : List ℕ) : Type 0 where
   pub source : Doc
   pub next : ℕ
@@ -16,4 +17,5 @@ pub record Lowers (bytes text : List ℕ) : Type 0 where
   pub erases : output ≡ erased source
   pub valid : is_tree output ≡ true
   pub plain : is_plain output ≡ true
+  pub same_word : word output ≡ word source
   pub written : text ≡ text_of output

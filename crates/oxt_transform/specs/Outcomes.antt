@@ -4,7 +4,7 @@ use Rattle.std.specs.Io.KnownBytes.{Appends}
 use Rattle.oxt_io.specs.Counts.{Rose}
 use Rattle.oxt_io.specs.Passed.{GaveAll, AppendsPrefix}
 use Rattle.oxt_transform.specs.Lowering.{Lowers}
-use Rattle.oxt_transform.specs.Refusals.{Refusal, refusal_of, line_of}
+use Rattle.oxt_transform.specs.Refusals.{Refusal, Refuses, Accepts, line_of}
 use Rattle.oxt_io.specs.declared.outcome.InputFault.{InputFault}
 use Rattle.oxt_io.specs.declared.outcome.InputFault.TheVariants as input
 use Rattle.oxt_transform.specs.declared.fault.Fault.{Fault}
@@ -138,7 +138,7 @@ pub record RefusedFor (reason : Option Refusal) (left left' taken taken' : Optio
   pub read : GaveAll left left' bytes
   pub within : length bytes ≤ limit
   pub named : reason ≡ Some refusal
-  pub cause : refusal_of bytes ≡ Some refusal
+  pub cause : Refuses refusal bytes
   pub wrote : Appends taken taken' (line_of refusal)
 
 -- A sink failed, having taken a prefix of what it was to take.
@@ -166,7 +166,7 @@ pub record RefusalCut (left left' taken taken' message message' : Option (List �
   pub bytes : List ℕ
   pub refusal : Refusal
   pub read : GaveAll left left' bytes
-  pub cause : refusal_of bytes ≡ Some refusal
+  pub cause : Refuses refusal bytes
   pub prefix : AppendsPrefix message message' (line_of refusal)
   pub quiet : taken' ≡ taken
 
@@ -181,7 +181,7 @@ pub record NothingStands (words : List Name) (left : Option (List ℕ)) (read re
   pub bytes : List ℕ
   pub holds : left ≡ Some bytes
   pub within : length bytes ≤ limit
-  pub accepted : refusal_of bytes ≡ None
+  pub accepted : Accepts bytes
   pub read_well : Rose read read' → ⊥
   pub wrote_well : Rose wrote wrote' → ⊥
   pub told_well : Rose told told' → ⊥

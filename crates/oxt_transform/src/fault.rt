@@ -1,9 +1,10 @@
 //! Why bytes are refused.
 ghost use Rattle.std.specs.Prelude.{◌≡◌, Some, None, IfOk, ◌++◌, codes, option_map, string_bytes};
 ghost use Rattle.oxt_transform.specs.Faults.{refusal_in, read_refusal};
-ghost use Rattle.oxt_transform.specs.Refusals.{line_of};
+ghost use Rattle.oxt_transform.specs.Refusals.{difference_in, line_of, uncertified};
 ghost use Rattle.oxt_transform.specs.declared.fault.Fault.TheVariants.{OutOfMemory as NoMemory};
 
+use crate::certificate::Mismatch;
 use oxt_json::ReadFault;
 use oxt_tree::ids::OutOfMemory;
 use oxt_tree::name::Name;
@@ -25,9 +26,9 @@ pub enum Fault {
     /// The tree has a form that is not built yet: `kind` names the first.
     #[error("not built yet: {kind:?}", kind = .kind.as_str())]
     Unbuilt { kind: Name },
-    /// The lowered tree failed the test for a valid and plain one, and was thrown away.
-    #[error("the lowered tree failed its test")]
-    Uncertified,
+    /// The lowered tree failed its certificate, and was thrown away.
+    #[error("the lowered tree is not certified")]
+    Uncertified { mismatch: Mismatch },
 }
 
 impl From<OutOfMemory> for Fault {
@@ -60,7 +61,7 @@ impl Fault {
             Fault::Json => Ok(Some(String::from_str(alloc, "json\n")?)),
             Fault::Shape { place } => Ok(Some(named_line(alloc, "shape ", place.as_str())?)),
             Fault::Unbuilt { kind } => Ok(Some(named_line(alloc, "unbuilt ", kind.as_str())?)),
-            Fault::Uncertified => Ok(Some(String::from_str(alloc, "uncertified\n")?)),
+            Fault::Uncertified { mismatch } => Ok(Some(uncertified_line(alloc, mismatch)?)),
         }
     }
 }
@@ -73,4 +74,16 @@ fn named_line(alloc: Global, what: &str, name: &str) -> Result<String, AllocErro
     line.push_str(name)?;
     line.push_str("\n")?;
     Ok(line)
+}
+
+// How the lowered tree fails its certificate, and a line feed.
+fn uncertified_line(alloc: Global, mismatch: &Mismatch) -> Result<String, AllocError>
+    ensures { IfOk result
+        (λ line. string_bytes line ≡ line_of (uncertified (difference_in mismatch.now))) }
+{
+    match mismatch {
+        Mismatch::Shape { place } => named_line(alloc, "uncertified shape ", place.as_str()),
+        Mismatch::Plain { place } => named_line(alloc, "uncertified plain ", place.as_str()),
+        Mismatch::Item { index } => format!(in alloc; "uncertified item {index}\n"),
+    }
 }

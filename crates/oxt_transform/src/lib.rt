@@ -1,10 +1,12 @@
 //! From the bytes of a TypeScript tree to those of a plain JavaScript tree, and the program's one call.
 #![tactic(auto)]
 
+pub mod certificate;
 pub mod fault;
 pub mod program;
 pub mod transform;
 
+pub use certificate::Mismatch;
 pub use fault::Fault;
 pub use oxt_io::{
     Failed, MemorySink, MemorySource, ReaderSource, Sink, Source, SureSink, SureSource, WriterSink,

@@ -6,7 +6,7 @@ ghost use Rattle.oxt_io.specs.Passed.{GavePast};
 ghost use Rattle.oxt_transform.specs.Faults.{refusal_in, IsReasonFor};
 ghost use Rattle.oxt_transform.specs.Lowering.{Lowers};
 ghost use Rattle.oxt_transform.specs.Outcomes.{limit, usage_line, status_of, OnDone, IfRefused, OnUsage, OnReadFault, OnWriteFault, OnTooLong, OnNoAnswer, OnNoMessage, UnlessUsage, IsDoneOrMemory, Answered, RefusedFor, CutOff, OnMemory, IsUsageOrWriteFault, IsDoneOrWriteFault, IsRefusedMemoryOrWriteFault, input_outcome, LowersToLine, Reported, ReportCut, AnswerCut, RefusalCut, UsageCut, NothingStands};
-ghost use Rattle.oxt_transform.specs.Refusals.{refusal_of, line_of};
+ghost use Rattle.oxt_transform.specs.Refusals.{line_of};
 
 use crate::fault::Fault;
 use crate::transform::{TransformOptions, transform_text};

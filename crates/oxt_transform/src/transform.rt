@@ -2,18 +2,16 @@
 ghost use Rattle.std.specs.Prelude.{◌≡◌, Option, None, Some, IfOk, IfErr, OnOk};
 ghost use Rattle.oxt_transform.specs.Faults.{refusal_in, IsReasonFor, text_in};
 ghost use Rattle.oxt_transform.specs.Lowering.{Lowers};
-ghost use Rattle.oxt_transform.specs.Refusals.{refusal_of, passes};
-ghost use Rattle.oxt_tree.specs.View.{node_doc};
+ghost use Rattle.oxt_transform.specs.Refusals.{Accepts};
 
+use crate::certificate::find_mismatch;
 use crate::fault::{Fault, fault_of_reading};
 use oxt_erase::erase::erase_program;
 use oxt_erase::unbuilt::first_unbuilt;
 use oxt_json::read_tree;
 use oxt_json_write::write_tree;
-use oxt_tree::fits::is_tree;
 use oxt_tree::ids::OutOfMemory;
-use oxt_tree::plain::is_plain;
-use oxt_tree::tree::Node;
+use oxt_word::word::word_of;
 use std::alloc::Global;
 
 /// What changes the lowering. No option stands yet.
@@ -60,7 +58,7 @@ pub fn transform_text(
     _options: &TransformOptions,
 ) -> Result<TransformerReturn, Fault>
     ensures lowers { IfOk result (λ r. Lowers text.now (text_in r)) }
-    ensures accepted { OnOk result (refusal_of text.now ≡ None) }
+    ensures accepted { OnOk result (Accepts text.now) }
     ensures refused { IfErr result (λ f. IsReasonFor (refusal_in f) text.now) }
 {
     let mut program = match read_tree(alloc, text) {
@@ -70,17 +68,11 @@ pub fn transform_text(
     if let Some(kind) = first_unbuilt(alloc, &program.root)? {
         return Err(Fault::Unbuilt { kind });
     }
+    let before = word_of(alloc, &program.root)?;
     erase_program(alloc, &mut program);
-    if !is_certified(&program.root) {
-        return Err(Fault::Uncertified);
+    if let Some(mismatch) = find_mismatch(alloc, before.as_slice(), &program.root)? {
+        return Err(Fault::Uncertified { mismatch });
     }
     let bytes = write_tree(alloc, &program)?;
     Ok(TransformerReturn { bytes })
-}
-
-// Whether the lowered tree is one of the grammar without TypeScript.
-fn is_certified(output: &Node) -> bool
-    ensures { result ≡ passes (node_doc output.now) }
-{
-    is_tree(output) && is_plain(output)
 }

@@ -3,7 +3,7 @@ use Rattle.std.proofs.Common.{◌+◌, ◌<◌, ◌≤◌, ◌≡◌, refl, sym,
 use Rattle.std.proofs.Math.Seq.{drop-cons}
 use Rattle.std.proofs.lemmas.List.Folds.{fold-map}
 use Rattle.std.specs.List.{list_any, count_by}
-use Rattle.oxt_tree.specs.Condition.{count}
+use Rattle.oxt_tree.specs.Fields.{count}
 use Rattle.oxt_tree.specs.Doc.{Doc}
 use Rattle.oxt_tree.specs.Fields.{docs_list}
 use Rattle.oxt_tree.specs.View.{docs_in, part_doc}
@@ -33,3 +33,6 @@ drop_end [] zero h = refl
 drop_end [] (suc i) h = refl
 drop_end (x ∷ xs) zero h = absurd (omega arith)
 drop_end (x ∷ xs) (suc i) h = drop_end xs i (omega arith)
+
+-- what is counted and sought among parts, and among their documents
+pub ruleset searches = (list_any_docs_in, count_by_docs_in)

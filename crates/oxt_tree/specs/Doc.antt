@@ -3,7 +3,8 @@ use Rattle.std.specs.Prelude.{ℕ, List, [], ◌∷◌, Bool}
 use Rattle.oxt_table.specs.declared.kind.Kind.{Kind}
 
 mutual
-  -- null, a flag, a whole number, a text, a list, or a node with its kind, number, start, end and fields
+  -- null, a flag, a whole number, a text, a list, or a node with its kind, number, start, end and
+  -- fields
   pub data Doc : Type 0 where
     nil : Doc
     flag : Bool → Doc

@@ -1,5 +1,5 @@
 -- What the fields of a document hold.
-use Rattle.std.specs.Prelude.{ℕ, List, [], ◌∷◌, Bool, true, false, not, ◌&&◌, if◌then◌else◌, Option, None, Some, slice_get}
+use Rattle.std.specs.Prelude.{ℕ, List, [], ◌∷◌, Bool, true, false, not, ◌&&◌, if◌then◌else◌, Option, None, Some, slice_get, length}
 use Rattle.std.specs.Str.{bytes_eq}
 use Rattle.oxt_table.specs.Field.{Field, is_required}
 use Rattle.oxt_table.specs.Places.{same_kind, kind_in}
@@ -130,3 +130,17 @@ is_empty_list d = false
 abbrev pub node_of : Doc → Option Doc
 node_of (node k i b e ds) = Some (node k i b e ds)
 node_of d = None
+
+-- the text, if it is one
+abbrev pub text_in : Doc → Option (List ℕ)
+text_in (text t) = Some t
+text_in d = None
+
+-- the first document; null where there is none
+abbrev pub first : Docs → Doc
+first no_docs = nil
+first (doc d ds) = d
+
+-- how many documents there are
+abbrev pub count : Docs → ℕ
+count ds = length (docs_list ds)

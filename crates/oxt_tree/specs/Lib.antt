@@ -1,7 +1,10 @@
-pub mod Condition
+pub mod Bound
+pub mod Copies
 pub mod Doc
 pub mod Fields
+pub mod Inner
 pub mod Names
-pub mod Plain
-pub mod Valid
+pub mod Pointer
+pub mod Syntax
+pub mod Taken
 pub mod View

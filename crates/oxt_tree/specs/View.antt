@@ -1,8 +1,10 @@
 -- The document that a tree stands for.
 use denote.Ref.{Bor}
-use Rattle.std.specs.Prelude.{List, map, Option, None, Some}
+use Rattle.std.specs.Prelude.{ℕ, List, map, Option, None, Some}
 use Rattle.oxt_table.specs.Words.{text_of}
+use Rattle.oxt_table.specs.declared.kind.Kind.{Kind}
 use Rattle.oxt_tree.specs.Doc.{Doc, nil, flag, number, text, list, node, Docs, docs_of}
+use Rattle.oxt_tree.specs.Fields.{named}
 use Rattle.oxt_tree.specs.Names.{name_bytes}
 use Rattle.oxt_tree.specs.declared.tree.Node.{Node}
 use Rattle.oxt_tree.specs.declared.tree.Part.{Part, fold-Part}
@@ -43,3 +45,11 @@ doc_of_part (Some p) = part_doc p
 abbrev pub doc_or_nil : Option (Bor Part) → Doc
 doc_or_nil None = nil
 doc_or_nil (Some p) = part_doc p.now
+
+-- the field of that name of a node of that kind
+abbrev pub part_named : List ℕ → Kind → Node → Doc
+part_named name k n = named name k (docs_in n.parts.items)
+
+-- the field of that name of a node, by its own kind
+abbrev pub field_in : List ℕ → Node → Doc
+field_in name n = part_named name n.kind n

@@ -1,12 +1,12 @@
 //! What the fields of a node hold, by the names that the grammar gives them.
-ghost use Rattle.std.specs.Prelude.{◌≡◌, option_map};
+ghost use Rattle.std.specs.Prelude.{◌≡◌, ◌<◌, ◌^◌, option_map};
 ghost use Rattle.std.specs.List.{position_from, slice_get};
 ghost use Rattle.std.specs.Str.{bytes_eq};
 ghost use Rattle.oxt_table.specs.Field.{row_view};
 ghost use Rattle.oxt_table.specs.Rows.{row_of};
 ghost use Rattle.oxt_table.specs.declared.holds.Holds.TheVariants as holds;
 ghost use Rattle.oxt_tree.specs.Doc.{Doc};
-ghost use Rattle.oxt_tree.specs.Fields.{named, elements, node_of, is_nil, is_set, is_text, is_kind, is_in, default_of, is_default, is_left_out, is_empty_list};
+ghost use Rattle.oxt_tree.specs.Fields.{named, elements, count, node_of, text_in, is_nil, is_set, is_text, is_kind, is_in, default_of, is_default, is_left_out, is_empty_list};
 ghost use Rattle.oxt_tree.specs.View.{doc_of_part, doc_or_nil, docs_in, node_doc, part_doc};
 
 use crate::tree::{Node, Part};
@@ -23,9 +23,16 @@ impl Node {
         ensures { doc_or_nil result ≡ named name.now self.now.kind (docs_in self.now.parts.items) }
     {
         match place_of(self.kind.rows(), name) {
-            Some(place) => part_at(&self.parts, place),
+            Some(place) => self.at(place),
             None => None,
         }
+    }
+
+    /// What the field at that place holds, counted from 0 in the order of the rows.
+    pub fn at(&self, place: usize) -> Option<&Part>
+        ensures { doc_or_nil result ≡ doc_of_part (slice_get self.now.parts.items place) }
+    {
+        self.parts.get(place)
     }
 
     /// Whether the field of that name is a flag that is set.
@@ -50,7 +57,8 @@ impl Node {
 
     /// The elements of the list in the field of that name; none where it holds no list.
     pub fn list(&self, name: &str) -> &[Part]
-        ensures { docs_in result.now ≡ elements (named name.now self.now.kind (docs_in self.now.parts.items)) }
+        ensures { docs_in result.now
+            ≡ elements (named name.now self.now.kind (docs_in self.now.parts.items)) }
     {
         match self.field(name) {
             Some(part) => part.elements(),
@@ -60,7 +68,8 @@ impl Node {
 
     /// Whether the field of that name holds that text, or the word with that text.
     pub fn holds_text(&self, name: &str, text: &str) -> bool
-        ensures { result ≡ is_text text.now (named name.now self.now.kind (docs_in self.now.parts.items)) }
+        ensures { result
+            ≡ is_text text.now (named name.now self.now.kind (docs_in self.now.parts.items)) }
     {
         match self.field(name) {
             Some(part) => part.is_text(text),
@@ -70,7 +79,8 @@ impl Node {
 
     /// Whether the field of that name holds a node of that kind.
     pub fn holds_kind(&self, name: &str, kind: Kind) -> bool
-        ensures { result ≡ is_kind kind (named name.now self.now.kind (docs_in self.now.parts.items)) }
+        ensures { result
+            ≡ is_kind kind (named name.now self.now.kind (docs_in self.now.parts.items)) }
     {
         match self.field(name) {
             Some(part) => part.is_kind(kind),
@@ -128,6 +138,17 @@ impl Part {
         match self {
             Part::Node(node) => category.contains(node.kind),
             _ => false,
+        }
+    }
+
+    /// The text that it is, or that of the word that it is.
+    pub fn as_text(&self) -> Option<&str>
+        ensures { option_map (λ text. text.now) result ≡ text_in (part_doc self.now) }
+    {
+        match self {
+            Part::Text(name) => Some(name.as_str()),
+            Part::Word(word) => Some(word.text()),
+            _ => None,
         }
     }
 
@@ -205,17 +226,10 @@ impl Part {
 }
 
 /// The place of the first row of that name.
-fn place_of(rows: &[Row], name: &str) -> Option<usize>
+pub fn place_of(rows: &[Row], name: &str) -> Option<usize>
     ensures { result ≡ position_from (λ row. bytes_eq row.name.now name.now) 0 rows.now }
 {
     rows.iter().position(|row| row.name == name)
-}
-
-/// The part at that place.
-fn part_at(parts: &[Part], place: usize) -> Option<&Part>
-    ensures { doc_or_nil result ≡ doc_of_part (slice_get parts.now place) }
-{
-    parts.get(place)
 }
 
 /// What a field holds where it is left out.
@@ -239,4 +253,13 @@ fn first_word(words: Words) -> Part
         Some(word) => Part::Word(*word),
         None => Part::Nothing,
     }
+}
+
+/// How many parts there are.
+#[tactic(auto, using(crate::proofs::Lists::count_docs_in))]
+pub fn count(parts: &[Part]) -> usize
+    ensures value { result ≡ count (docs_in parts.now) }
+    ensures small { result < 2 ^ 63 }
+{
+    parts.len()
 }

@@ -1,10 +1,15 @@
 //! The tree: nodes of one type, whose fields are those of the table of the grammar.
 #![tactic(auto)]
 
-pub mod condition;
+pub mod bound;
+pub mod copy;
 pub mod fields;
-pub mod fits;
 pub mod ids;
+pub mod inner;
 pub mod name;
-pub mod plain;
+pub mod pointer;
+pub mod syntax;
+pub mod take;
+#[cfg(test)]
+mod tests;
 pub mod tree;

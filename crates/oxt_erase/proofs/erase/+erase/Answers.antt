@@ -2,7 +2,7 @@ use Rattle.std.proofs.Common.{◌≡◌, ◌<◌, ◌∙◌, sym, arith, ap, len
 use Rattle.std.proofs.lemmas.Grind.{common_steps}
 use Rattle.oxt_erase.proofs.Fronts.{all_elements, all_fields, at_row, in_list, one_more, same_head}
 use Rattle.oxt_erase.proofs.Sizes.{doc_size, docs_size, element_size, filter_size}
-use Rattle.oxt_erase.specs.Erased.{is_erased}
+use Rattle.oxt_tree.specs.Syntax.{is_mere_declaration}
 use Rattle.oxt_tree.specs.View.{docs_in, part_doc}
 use Rattle.oxt_erase.proofs.erase.+erase.Goals as goal
 
@@ -14,7 +14,7 @@ erase_list-erase_part-requires t c =
     let same = ap (λ p. doc_size (part_doc p)) unvisited in
     let kept = ap (λ ps. docs_size (docs_in ps)) c.drop_erased.ensures in
     let smaller = element_size c.drop_erased.new.parts.items c.loop-i.i c.index_mut.result.now here in
-    (omega (arith, c.decreases, element, same, kept, smaller, filter_size (λ p. not (is_erased (part_doc p))) c.args.parts.now.items), tt)
+    (omega (arith, c.decreases, element, same, kept, smaller, filter_size (λ p. not (is_mere_declaration (part_doc p))) c.args.parts.now.items), tt)
 
 pub erase_list-loop-i-preserved : goal.erase_list-loop-i-preserved
 erase_list-loop-i-preserved t c = record {

@@ -1,0 +1,155 @@
+//! The items of a word.
+ghost use Rattle.std.specs.Prelude.{◌≡◌};
+
+use oxt_table::kind::Kind;
+use oxt_table::word::Word;
+use oxt_tree::name::Name;
+
+/// What an item stands for.
+///
+/// Made names, exports, and what only they can give, are not there yet: no name is made so far.
+#[derive(Clone, Copy, Debug, PartialEq, Eq)]
+pub enum Mark {
+    /// The line for the system at the start of a program.
+    Hash,
+    /// A directive.
+    Dir,
+    /// The start of a node of the kind that it is spelled, with the node's texts and flags.
+    Open,
+    /// The end of a node.
+    Close,
+    /// A part that is absent.
+    Nil,
+    /// A text.
+    Str,
+    /// A number; its raw text where it has no value.
+    Num,
+    /// A private name.
+    Private,
+    /// The empty object.
+    New,
+    /// `this`.
+    This,
+    /// The use of a name.
+    Name,
+    /// The read of an object and a key; spelled by whether it is optional.
+    Get,
+    /// The write of an object, a key and a value.
+    Put,
+    /// A value that is dropped.
+    Eval,
+    /// A value that goes into the binding that follows.
+    Set,
+    /// A declared name, with what it is declared as.
+    Bind,
+    /// The entry into a called function with that parameter, and the call's pure flag.
+    In,
+    /// The end of a called function.
+    Out,
+    /// The name before it, or the empty object.
+    Found,
+    /// The same, which the name then holds.
+    FoundMade,
+    /// A field of a class, with whether it is static and whether it is an accessor.
+    Field,
+    /// The end of a field.
+    Define,
+    /// The end of a key that is computed.
+    Key,
+    /// The start of a constructor's body.
+    Body,
+}
+
+impl Mark {
+    ghost use Rattle.oxt_item.specs.Marks.{mark_name};
+
+    /// The name by which a word is shown.
+    pub fn name(self) -> &'static str
+        ensures { result.now ≡ mark_name self }
+    {
+        match self {
+            Mark::Hash => "Hash",
+            Mark::Dir => "Dir",
+            Mark::Open => "Open",
+            Mark::Close => "Close",
+            Mark::Nil => "Nil",
+            Mark::Str => "Str",
+            Mark::Num => "Num",
+            Mark::Private => "Private",
+            Mark::New => "New",
+            Mark::This => "This",
+            Mark::Name => "Name",
+            Mark::Get => "Get",
+            Mark::Put => "Put",
+            Mark::Eval => "Eval",
+            Mark::Set => "Set",
+            Mark::Bind => "Bind",
+            Mark::In => "In",
+            Mark::Out => "Out",
+            Mark::Found => "Found",
+            Mark::FoundMade => "FoundMade",
+            Mark::Field => "Field",
+            Mark::Define => "Define",
+            Mark::Key => "Key",
+            Mark::Body => "Body",
+        }
+    }
+}
+
+/// What a name is declared as.
+#[derive(Clone, Copy, Debug, PartialEq, Eq)]
+pub enum Binding {
+    Var,
+    Let,
+    Const,
+    Using,
+    AwaitUsing,
+    Function,
+    Class,
+    Parameter,
+    Catch,
+    /// The name of a function expression or a class expression.
+    Inner,
+}
+
+impl Binding {
+    ghost use Rattle.oxt_item.specs.Entry.{binding_text};
+
+    /// The text that stands for it.
+    pub fn text(self) -> &'static str
+        ensures { result.now ≡ binding_text self }
+    {
+        match self {
+            Binding::Var => "var",
+            Binding::Let => "let",
+            Binding::Const => "const",
+            Binding::Using => "using",
+            Binding::AwaitUsing => "await using",
+            Binding::Function => "function",
+            Binding::Class => "class",
+            Binding::Parameter => "parameter",
+            Binding::Catch => "catch",
+            Binding::Inner => "inner",
+        }
+    }
+}
+
+/// A text, a number, a flag or nothing.
+#[derive(Debug, Drop)]
+pub enum Atom {
+    Nothing,
+    Flag(bool),
+    Number(u64),
+    Text(Name),
+    Word(Word),
+    Kind(Kind),
+    Binding(Binding),
+}
+
+/// An item: what it stands for, what it is spelled, and further texts and flags.
+#[derive(Debug, Drop)]
+pub struct Item {
+    pub mark: Mark,
+    pub spelling: Atom,
+    pub details: Vec<Atom>,
+}

@@ -1,0 +1,7 @@
+//! The items of which effect words consist, and the comparison of two words.
+#![tactic(auto)]
+
+pub mod compare;
+pub mod item;
+#[cfg(test)]
+mod tests;

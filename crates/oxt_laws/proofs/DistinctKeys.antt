@@ -1,0 +1,210 @@
+-- The keys of a node's object are distinct.
+use Rattle.std.proofs.Common.{◌≡◌, refl, ℕ, List, [], ◌∷◌, Bool, true, codes, bytes_eq}
+use Rattle.std.specs.Prelude.{not, ◌&&◌}
+use Rattle.std.specs.List.{list_any}
+use Rattle.oxt_table.specs.Field.{Field}
+use Rattle.oxt_table.specs.Rows.{row_of}
+use Rattle.oxt_table.specs.declared.kind.Kind.{Kind}
+use Rattle.oxt_table.specs.declared.kind.Kind.TheVariants as kind
+
+abbrev pub is_among : List ℕ → List (List ℕ) → Bool
+is_among name names = list_any (bytes_eq name) names
+
+abbrev pub are_distinct : List (List ℕ) → Bool
+are_distinct [] = true
+are_distinct (name ∷ names) = not (is_among name names) && are_distinct names
+
+abbrev pub names_of : List Field → List (List ℕ)
+names_of [] = []
+names_of (r ∷ rs) = r.name ∷ names_of rs
+
+-- the keys of a node's object: those of each node, and those of its kind
+abbrev pub keys_of : Kind → List (List ℕ)
+keys_of k = codes "type" ∷ codes "start" ∷ codes "end" ∷ names_of (row_of k)
+
+pub distinct_keys : (k : Kind) → are_distinct (keys_of k) ≡ true
+unfolding row_of
+distinct_keys kind.Program = refl
+distinct_keys kind.Directive = refl
+distinct_keys kind.ExpressionStatement = refl
+distinct_keys kind.BlockStatement = refl
+distinct_keys kind.EmptyStatement = refl
+distinct_keys kind.DebuggerStatement = refl
+distinct_keys kind.IfStatement = refl
+distinct_keys kind.ForStatement = refl
+distinct_keys kind.ForInStatement = refl
+distinct_keys kind.ForOfStatement = refl
+distinct_keys kind.WhileStatement = refl
+distinct_keys kind.DoWhileStatement = refl
+distinct_keys kind.ReturnStatement = refl
+distinct_keys kind.ThrowStatement = refl
+distinct_keys kind.BreakStatement = refl
+distinct_keys kind.ContinueStatement = refl
+distinct_keys kind.LabeledStatement = refl
+distinct_keys kind.WithStatement = refl
+distinct_keys kind.SwitchStatement = refl
+distinct_keys kind.SwitchCase = refl
+distinct_keys kind.TryStatement = refl
+distinct_keys kind.CatchClause = refl
+distinct_keys kind.CatchParameter = refl
+distinct_keys kind.VariableDeclaration = refl
+distinct_keys kind.VariableDeclarator = refl
+distinct_keys kind.FunctionDeclaration = refl
+distinct_keys kind.FunctionExpression = refl
+distinct_keys kind.TSDeclareFunction = refl
+distinct_keys kind.TSEmptyBodyFunctionExpression = refl
+distinct_keys kind.FormalParameters = refl
+distinct_keys kind.FormalParameter = refl
+distinct_keys kind.FormalParameterRest = refl
+distinct_keys kind.FunctionBody = refl
+distinct_keys kind.ArrowFunctionExpression = refl
+distinct_keys kind.ClassDeclaration = refl
+distinct_keys kind.ClassExpression = refl
+distinct_keys kind.ClassBody = refl
+distinct_keys kind.MethodDefinition = refl
+distinct_keys kind.TSAbstractMethodDefinition = refl
+distinct_keys kind.PropertyDefinition = refl
+distinct_keys kind.TSAbstractPropertyDefinition = refl
+distinct_keys kind.AccessorProperty = refl
+distinct_keys kind.TSAbstractAccessorProperty = refl
+distinct_keys kind.StaticBlock = refl
+distinct_keys kind.Decorator = refl
+distinct_keys kind.BindingIdentifier = refl
+distinct_keys kind.IdentifierReference = refl
+distinct_keys kind.IdentifierName = refl
+distinct_keys kind.PrivateIdentifier = refl
+distinct_keys kind.ObjectPattern = refl
+distinct_keys kind.ArrayPattern = refl
+distinct_keys kind.BindingProperty = refl
+distinct_keys kind.BindingRestElement = refl
+distinct_keys kind.AssignmentPattern = refl
+distinct_keys kind.ArrayAssignmentTarget = refl
+distinct_keys kind.ObjectAssignmentTarget = refl
+distinct_keys kind.AssignmentTargetPropertyIdentifier = refl
+distinct_keys kind.AssignmentTargetPropertyProperty = refl
+distinct_keys kind.AssignmentTargetRest = refl
+distinct_keys kind.AssignmentTargetWithDefault = refl
+distinct_keys kind.BooleanLiteral = refl
+distinct_keys kind.NullLiteral = refl
+distinct_keys kind.ThisExpression = refl
+distinct_keys kind.Super = refl
+distinct_keys kind.NumericLiteral = refl
+distinct_keys kind.StringLiteral = refl
+distinct_keys kind.BigIntLiteral = refl
+distinct_keys kind.RegExpLiteral = refl
+distinct_keys kind.MetaProperty = refl
+distinct_keys kind.TemplateLiteral = refl
+distinct_keys kind.TemplateElement = refl
+distinct_keys kind.TaggedTemplateExpression = refl
+distinct_keys kind.ArrayExpression = refl
+distinct_keys kind.ObjectExpression = refl
+distinct_keys kind.SpreadElement = refl
+distinct_keys kind.ObjectProperty = refl
+distinct_keys kind.AssignmentExpression = refl
+distinct_keys kind.BinaryExpression = refl
+distinct_keys kind.LogicalExpression = refl
+distinct_keys kind.UnaryExpression = refl
+distinct_keys kind.UpdateExpression = refl
+distinct_keys kind.ConditionalExpression = refl
+distinct_keys kind.SequenceExpression = refl
+distinct_keys kind.ParenthesizedExpression = refl
+distinct_keys kind.CallExpression = refl
+distinct_keys kind.NewExpression = refl
+distinct_keys kind.ImportExpression = refl
+distinct_keys kind.StaticMemberExpression = refl
+distinct_keys kind.ComputedMemberExpression = refl
+distinct_keys kind.PrivateFieldExpression = refl
+distinct_keys kind.PrivateInExpression = refl
+distinct_keys kind.ChainExpression = refl
+distinct_keys kind.AwaitExpression = refl
+distinct_keys kind.YieldExpression = refl
+distinct_keys kind.TSAsExpression = refl
+distinct_keys kind.TSSatisfiesExpression = refl
+distinct_keys kind.TSTypeAssertion = refl
+distinct_keys kind.TSNonNullExpression = refl
+distinct_keys kind.TSInstantiationExpression = refl
+distinct_keys kind.JSXElement = refl
+distinct_keys kind.JSXFragment = refl
+distinct_keys kind.JSXOpeningElement = refl
+distinct_keys kind.JSXClosingElement = refl
+distinct_keys kind.JSXIdentifier = refl
+distinct_keys kind.JSXNamespacedName = refl
+distinct_keys kind.JSXMemberExpression = refl
+distinct_keys kind.JSXAttribute = refl
+distinct_keys kind.JSXSpreadAttribute = refl
+distinct_keys kind.JSXExpressionContainer = refl
+distinct_keys kind.JSXEmptyExpression = refl
+distinct_keys kind.JSXSpreadChild = refl
+distinct_keys kind.JSXText = refl
+distinct_keys kind.ImportDeclaration = refl
+distinct_keys kind.ImportSpecifier = refl
+distinct_keys kind.ImportDefaultSpecifier = refl
+distinct_keys kind.ImportNamespaceSpecifier = refl
+distinct_keys kind.WithClause = refl
+distinct_keys kind.ImportAttribute = refl
+distinct_keys kind.ExportDeclaration = refl
+distinct_keys kind.ExportNamedDeclaration = refl
+distinct_keys kind.ExportFromDeclaration = refl
+distinct_keys kind.ExportAllDeclaration = refl
+distinct_keys kind.ExportDefaultDeclaration = refl
+distinct_keys kind.ExportSpecifier = refl
+distinct_keys kind.TSExportAssignment = refl
+distinct_keys kind.TSNamespaceExportDeclaration = refl
+distinct_keys kind.TSTypeAliasDeclaration = refl
+distinct_keys kind.TSInterfaceDeclaration = refl
+distinct_keys kind.TSEnumDeclaration = refl
+distinct_keys kind.TSEnumBody = refl
+distinct_keys kind.TSEnumMember = refl
+distinct_keys kind.TSNamespaceDeclaration = refl
+distinct_keys kind.TSModuleBlock = refl
+distinct_keys kind.TSExternalModuleDeclaration = refl
+distinct_keys kind.TSGlobalDeclaration = refl
+distinct_keys kind.TSImportEqualsDeclaration = refl
+distinct_keys kind.TSExternalModuleReference = refl
+distinct_keys kind.TSQualifiedName = refl
+distinct_keys kind.TSTypeAnnotation = refl
+distinct_keys kind.TSThisParameter = refl
+distinct_keys kind.TSTypeParameterDeclaration = refl
+distinct_keys kind.TSTypeParameter = refl
+distinct_keys kind.TSTypeReference = refl
+distinct_keys kind.TSUnionType = refl
+distinct_keys kind.TSIntersectionType = refl
+distinct_keys kind.TSConditionalType = refl
+distinct_keys kind.TSTypeOperator = refl
+distinct_keys kind.TSParenthesizedType = refl
+distinct_keys kind.JSDocNullableType = refl
+distinct_keys kind.JSDocNonNullableType = refl
+distinct_keys kind.TSTypePredicate = refl
+distinct_keys kind.TSLiteralType = refl
+distinct_keys kind.TSVoidKeyword = refl
+distinct_keys kind.TSUndefinedKeyword = refl
+distinct_keys kind.TSNullKeyword = refl
+distinct_keys kind.TSNeverKeyword = refl
+distinct_keys kind.TSBooleanKeyword = refl
+distinct_keys kind.TSStringKeyword = refl
+distinct_keys kind.TSNumberKeyword = refl
+distinct_keys kind.TSBigIntKeyword = refl
+distinct_keys kind.TSSymbolKeyword = refl
+distinct_keys kind.TSObjectKeyword = refl
+distinct_keys kind.TSAnyKeyword = refl
+distinct_keys kind.TSUnknownKeyword = refl
+distinct_keys kind.TSIntrinsicKeyword = refl
+distinct_keys kind.TSFunctionType = refl
+distinct_keys kind.TSConstructorType = refl
+distinct_keys kind.TSArrayType = refl
+distinct_keys kind.TSTupleType = refl
+distinct_keys kind.TSNamedTupleMember = refl
+distinct_keys kind.TSOptionalType = refl
+distinct_keys kind.TSRestType = refl
+distinct_keys kind.TSTemplateLiteralType = refl
+distinct_keys kind.TSTypeQuery = refl
+distinct_keys kind.TSIndexedAccessType = refl
+distinct_keys kind.TSMappedType = refl
+distinct_keys kind.TSTypeLiteral = refl
+distinct_keys kind.TSThisType = refl
+distinct_keys kind.TSImportType = refl
+distinct_keys kind.TSInferType = refl
+distinct_keys kind.JSDocUnknownType = refl
+distinct_keys kind.TSTypeParameterInstantiation = refl
+distinct_keys kind.TSClassImplements = refl
+distinct_keys kind.TSIndexSignature = refl

@@ -1,6 +1,0 @@
--- The chain counts by the test; the search ends sooner with no other lemma in its list.
-use Rattle.std.proofs.Common.{rules}
-use Rattle.oxt_tree.proofs.condition.constructors_with_body.Goals as goal
-
-pub returns : goal.returns
-returns c = search rules

@@ -1,0 +1,104 @@
+//! Which nodes are syntax of TypeScript alone.
+ghost use Rattle.std.specs.Prelude.{◌≡◌, codes};
+ghost use Rattle.std.specs.List.{list_any};
+ghost use Rattle.oxt_table.specs.Places.{same_kind};
+ghost use Rattle.oxt_tree.specs.Syntax.{erased_kinds, is_erased_kind, is_type_only, lacks_body, is_erased, is_erased_node, is_mere_declaration, is_typescript_syntax};
+ghost use Rattle.oxt_tree.specs.View.{docs_in, field_in, node_doc, part_doc};
+
+use crate::tree::{Node, Part};
+use oxt_table::category::Category;
+use oxt_table::kind::Kind;
+
+impl Node {
+    /// Whether it is a wrapper, or erased by its kind, by `declare` or `type`, or for want of a
+    /// body; or an export of what is erased so.
+    pub fn is_typescript_syntax(&self) -> bool
+        ensures { result ≡ is_typescript_syntax self.now.kind (docs_in self.now.parts.items) }
+    {
+        Category::Wrapper.contains(self.kind) || self.is_erased() || self.exports_erased()
+    }
+
+    /// Whether it is erased by its kind, by `declare` or `type`, or for want of a body.
+    fn is_erased(&self) -> bool
+        ensures { result ≡ is_erased self.now.kind (docs_in self.now.parts.items) }
+    {
+        is_erased_kind(self.kind)
+            || self.flag("declare")
+            || self.is_type_only()
+            || self.holds_kind("value", Kind::TSEmptyBodyFunctionExpression)
+    }
+
+    /// Whether it is an import or an export of types alone.
+    fn is_type_only(&self) -> bool
+        ensures { result ≡ is_type_only self.now.kind (docs_in self.now.parts.items) }
+    {
+        self.holds_text("importKind", "type") || self.holds_text("exportKind", "type")
+    }
+
+    /// Whether it is an export of a declaration that is erased.
+    fn exports_erased(&self) -> bool
+        ensures { result ≡ is_erased_node (field_in (codes "declaration") self.now) }
+    {
+        match self.field("declaration") {
+            Some(Part::Node(declaration)) => declaration.is_erased(),
+            _ => false,
+        }
+    }
+}
+
+impl Node {
+    /// Whether it is a statement that stands for nothing at run time: a type alias, an interface,
+    /// or variables that are only declared.
+    pub fn is_mere_declaration(&self) -> bool
+        ensures { result ≡ is_mere_declaration (node_doc self.now) }
+    {
+        self.kind.is(Kind::TSTypeAliasDeclaration)
+            || (self.kind.is(Kind::TSInterfaceDeclaration)
+                || (self.kind.is(Kind::VariableDeclaration) && self.flag("declare")))
+    }
+}
+
+impl Part {
+    /// Whether it is a statement that stands for nothing at run time.
+    pub fn is_mere_declaration(&self) -> bool
+        ensures { result ≡ is_mere_declaration (part_doc self.now) }
+    {
+        match self {
+            Part::Node(node) => node.is_mere_declaration(),
+            _ => false,
+        }
+    }
+}
+
+/// Whether nodes of the kind are erased whatever they hold.
+fn is_erased_kind(kind: Kind) -> bool
+    ensures { result ≡ is_erased_kind kind }
+{
+    is_one_of(kind, erased_kinds())
+}
+
+/// Whether the kind is one of the list.
+fn is_one_of(kind: Kind, kinds: &[Kind]) -> bool
+    ensures { result ≡ list_any (λ other. same_kind kind other) kinds.now }
+{
+    kinds.iter().any(|other| kind.is(*other))
+}
+
+/// The kinds whose nodes are erased whatever they hold.
+fn erased_kinds() -> &'static [Kind]
+    ensures { result.now ≡ erased_kinds }
+{
+    &[
+        Kind::TSTypeAliasDeclaration,
+        Kind::TSInterfaceDeclaration,
+        Kind::TSGlobalDeclaration,
+        Kind::TSExternalModuleDeclaration,
+        Kind::TSNamespaceExportDeclaration,
+        Kind::TSDeclareFunction,
+        Kind::TSEmptyBodyFunctionExpression,
+        Kind::TSAbstractMethodDefinition,
+        Kind::TSAbstractPropertyDefinition,
+        Kind::TSAbstractAccessorProperty,
+        Kind::TSIndexSignature,
+    ]
+}

@@ -1,0 +1,5 @@
+pub mod Decisions
+pub mod FitLoops
+pub mod Misfits
+pub mod PlainLoops
+pub mod Remainders

@@ -1,0 +1,5 @@
+pub mod Condition
+pub mod Misfit
+pub mod Plain
+pub mod Remains
+pub mod Valid

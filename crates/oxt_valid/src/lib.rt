@@ -1,0 +1,11 @@
+//! Which nodes are trees of the grammar, and which of them are free of TypeScript.
+#![tactic(auto)]
+
+pub mod condition;
+pub mod fits;
+pub mod misfit;
+mod place;
+pub mod plain;
+pub mod remains;
+#[cfg(test)]
+mod tests;

@@ -1,0 +1,6 @@
+pub mod Forms
+pub mod Node
+pub mod RuleOf
+pub mod Ways
+pub mod Whole
+pub mod Word

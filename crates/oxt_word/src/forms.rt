@@ -1,0 +1,312 @@
+//! Tests that decide how a node is read.
+ghost use Rattle.std.specs.Prelude.{◌≡◌, ◌<◌, ◌^◌, not, ◌&&◌, codes};
+ghost use Rattle.std.specs.List.{list_any};
+ghost use Rattle.oxt_tree.specs.Fields.{count, first};
+ghost use Rattle.oxt_tree.specs.Inner.{seen};
+ghost use Rattle.oxt_tree.specs.Fields.{docs_list, elements, field_of, is_empty_list, is_kind, is_nil, is_set, is_text, named};
+ghost use Rattle.oxt_tree.specs.View.{docs_in, doc_or_nil, node_doc, part_doc};
+ghost use Rattle.oxt_word.specs.Forms.{binding_of, is_argument, is_bare_list, is_bare_parameter, is_called, is_callable, is_choice, is_empty_object, is_found, is_found_made, is_long, is_loud, is_name_again, is_one, is_put, is_quiet, makes, same_text, within};
+
+use oxt_item::item::Binding;
+use oxt_table::category::Category;
+use oxt_table::kind::Kind;
+use oxt_tree::fields::count;
+use oxt_tree::tree::{Node, Part};
+
+/// The field of that name, through wrappers and parentheses.
+fn within<'a>(node: &'a Node, name: &str) -> Option<&'a Part>
+    ensures { doc_or_nil result ≡ within name.now node.now.kind (docs_in node.now.parts.items) }
+{
+    match node.field(name) {
+        Some(part) => Some(part.seen()),
+        None => None,
+    }
+}
+
+/// Whether it is an assignment by `=` to a member of an object.
+pub fn is_put(node: &Node) -> bool
+    ensures { result ≡ is_put node.now.kind (docs_in node.now.parts.items) }
+{
+    node.holds_text("operator", "=")
+        && match within(node, "left") {
+            Some(left) => left.is_in(Category::MemberExpression),
+            None => false,
+        }
+}
+
+/// Whether it is a sequence of two or more.
+pub fn is_long(node: &Node) -> bool
+    ensures { result ≡ is_long node.now.kind (docs_in node.now.parts.items) }
+{
+    1 < count(node.list("expressions"))
+}
+
+/// Whether the list in the field of that name is empty.
+pub fn lists_nothing(node: &Node, name: &str) -> bool
+    ensures { result ≡ is_empty_list (named name.now node.now.kind (docs_in node.now.parts.items)) }
+{
+    match node.field(name) {
+        Some(Part::List(parts)) => parts.first().is_none(),
+        _ => false,
+    }
+}
+
+/// Whether it is `{}`.
+fn is_empty_object(part: &Part) -> bool
+    ensures { result ≡ is_empty_object (part_doc part.now) }
+{
+    match part {
+        Part::Node(node) => node.kind.is(Kind::ObjectExpression)
+            && lists_nothing(node, "properties"),
+        _ => false,
+    }
+}
+
+/// Whether both are texts, and one.
+fn same_text(a: &Part, b: &Part) -> bool
+    ensures { result ≡ same_text (part_doc a.now) (part_doc b.now) }
+{
+    match a {
+        Part::Text(name) => b.is_text(name.as_str()),
+        Part::Word(word) => b.is_text(word.text()),
+        _ => false,
+    }
+}
+
+/// Whether the fields of these names hold one text.
+fn same_name(a: &Node, b: &Node) -> bool
+    ensures { result ≡ same_text
+        (named (codes "name") a.now.kind (docs_in a.now.parts.items))
+        (named (codes "name") b.now.kind (docs_in b.now.parts.items)) }
+{
+    match a.field("name") {
+        Some(x) => match b.field("name") {
+            Some(y) => same_text(x, y),
+            None => false,
+        },
+        None => false,
+    }
+}
+
+/// Whether both are bare names, and one.
+fn is_name_again(a: &Part, b: &Part) -> bool
+    ensures { result ≡ is_name_again (part_doc a.now) (part_doc b.now) }
+{
+    match a {
+        Part::Node(x) => match b {
+            Part::Node(y) => {
+                x.kind.is(Kind::IdentifierReference)
+                    && (y.kind.is(Kind::IdentifierReference) && same_name(x, y))
+            }
+            _ => false,
+        },
+        _ => false,
+    }
+}
+
+/// Whether it is `x = {}`.
+fn makes(name: &Part, part: &Part) -> bool
+    ensures { result ≡ makes (part_doc name.now) (part_doc part.now) }
+{
+    match part {
+        Part::Node(node) => {
+            node.kind.is(Kind::AssignmentExpression)
+                && (node.holds_text("operator", "=")
+                    && (assigns_to(name, node) && holds_empty_object(node, "right")))
+        }
+        _ => false,
+    }
+}
+
+/// Whether the assignment is to the name.
+fn assigns_to(name: &Part, node: &Node) -> bool
+    ensures { result ≡ is_name_again (part_doc name.now)
+        (within (codes "left") node.now.kind (docs_in node.now.parts.items)) }
+{
+    match within(node, "left") {
+        Some(left) => is_name_again(name, left),
+        None => false,
+    }
+}
+
+/// Whether the field of that name holds `{}`.
+fn holds_empty_object(node: &Node, name: &str) -> bool
+    ensures { result
+        ≡ is_empty_object (within name.now node.now.kind (docs_in node.now.parts.items)) }
+{
+    match within(node, name) {
+        Some(part) => is_empty_object(part),
+        None => false,
+    }
+}
+
+/// Whether it is `x || ..` with a bare name.
+fn is_choice(node: &Node) -> bool
+    ensures { result ≡ is_choice node.now.kind (docs_in node.now.parts.items) }
+{
+    node.holds_text("operator", "||")
+        && match within(node, "left") {
+            Some(left) => left.is_kind(Kind::IdentifierReference),
+            None => false,
+        }
+}
+
+/// Whether it is `x || {}`.
+pub fn is_found(node: &Node) -> bool
+    ensures { result ≡ is_found node.now.kind (docs_in node.now.parts.items) }
+{
+    is_choice(node) && holds_empty_object(node, "right")
+}
+
+/// Whether it is `x || (x = {})`.
+pub fn is_found_made(node: &Node) -> bool
+    ensures { result ≡ is_found_made node.now.kind (docs_in node.now.parts.items) }
+{
+    is_choice(node) && makes_left(node)
+}
+
+/// Whether what stands on the right makes the name on the left.
+fn makes_left(node: &Node) -> bool
+    ensures { result ≡ makes (within (codes "left") node.now.kind (docs_in node.now.parts.items))
+        (within (codes "right") node.now.kind (docs_in node.now.parts.items)) }
+{
+    match within(node, "left") {
+        Some(left) => match within(node, "right") {
+            Some(right) => makes(left, right),
+            None => false,
+        },
+        None => false,
+    }
+}
+
+/// Whether there is exactly one.
+fn is_one(parts: &[Part]) -> bool
+    ensures { result ≡ is_one (docs_in parts.now) }
+{
+    count(parts) == 1
+}
+
+/// Whether it is a parameter that is a bare name.
+fn is_bare_parameter(part: &Part) -> bool
+    ensures { result ≡ is_bare_parameter (part_doc part.now) }
+{
+    match part {
+        Part::Node(node) => {
+            node.holds_kind("pattern", Kind::BindingIdentifier)
+                && (node.lacks("initializer") && lists_nothing(node, "decorators"))
+        }
+        _ => false,
+    }
+}
+
+/// Whether the first is a parameter that is a bare name.
+fn begins_bare(parts: &[Part]) -> bool
+    ensures { result ≡ is_bare_parameter (first (docs_in parts.now)) }
+{
+    match parts.first() {
+        Some(part) => is_bare_parameter(part),
+        None => false,
+    }
+}
+
+/// Whether these are exactly one parameter, a bare name.
+fn is_bare_list(part: &Part) -> bool
+    ensures { result ≡ is_bare_list (part_doc part.now) }
+{
+    match part {
+        Part::Node(node) => {
+            node.lacks("rest") && (is_one(node.list("items")) && begins_bare(node.list("items")))
+        }
+        _ => false,
+    }
+}
+
+/// Whether the function has exactly one parameter, a bare name.
+fn has_bare_list(node: &Node) -> bool
+    ensures { result
+        ≡ is_bare_list (named (codes "params") node.now.kind (docs_in node.now.parts.items)) }
+{
+    match node.field("params") {
+        Some(params) => is_bare_list(params),
+        None => false,
+    }
+}
+
+/// Whether it is a nameless function expression, neither async nor a generator, with such a
+/// parameter.
+fn is_callable(part: &Part) -> bool
+    ensures { result ≡ is_callable (part_doc part.now) }
+{
+    match part {
+        Part::Node(node) => {
+            node.kind.is(Kind::FunctionExpression)
+                && (node.lacks("id")
+                    && (!node.flag("async") && (!node.flag("generator") && has_bare_list(node))))
+        }
+        _ => false,
+    }
+}
+
+/// Whether these are one argument, which is no spread.
+fn is_argument(parts: &[Part]) -> bool
+    ensures { result ≡ is_argument (docs_in parts.now) }
+{
+    is_one(parts)
+        && match parts.first() {
+            Some(part) => !part.is_kind(Kind::SpreadElement),
+            None => true,
+        }
+}
+
+/// Whether a function is called where it stands: the call is not optional, and the function has one
+/// parameter, a bare name, for its one argument.
+pub fn is_called(node: &Node) -> bool
+    ensures { result ≡ is_called node.now.kind (docs_in node.now.parts.items) }
+{
+    !node.flag("optional")
+        && (is_argument(node.list("arguments"))
+            && match within(node, "callee") {
+                Some(callee) => is_callable(callee),
+                None => false,
+            })
+}
+
+/// Whether it is a statement that is neither an expression nor nothing.
+fn is_loud(part: &Part) -> bool
+    ensures { result ≡ is_loud (part_doc part.now) }
+{
+    !part.is_kind(Kind::ExpressionStatement) && !part.is_mere_declaration()
+}
+
+/// Whether each statement of the block is an expression or nothing.
+#[tactic(auto, using(oxt_tree::proofs::Lists::list_any_docs_in))]
+pub fn is_quiet(node: &Node) -> bool
+    ensures { result ≡ is_quiet node.now.kind (docs_in node.now.parts.items) }
+{
+    !is_any_loud(node.list("body"))
+}
+
+/// Whether one of them is a statement that is neither an expression nor nothing.
+fn is_any_loud(parts: &[Part]) -> bool
+    ensures { result ≡ list_any (λ part. is_loud (part_doc part)) parts.now }
+{
+    parts.iter().any(|part| is_loud(part))
+}
+
+/// What the declaration declares its names as.
+pub fn binding_of(node: &Node) -> Binding
+    ensures { result
+        ≡ binding_of (named (codes "kind") node.now.kind (docs_in node.now.parts.items)) }
+{
+    if node.holds_text("kind", "let") {
+        Binding::Let
+    } else if node.holds_text("kind", "const") {
+        Binding::Const
+    } else if node.holds_text("kind", "using") {
+        Binding::Using
+    } else if node.holds_text("kind", "await using") {
+        Binding::AwaitUsing
+    } else {
+        Binding::Var
+    }
+}

@@ -1,0 +1,12 @@
+//! The effect word of a tree: a flat list of items that says what the code does.
+#![tactic(auto)]
+
+mod class;
+pub mod forms;
+pub mod put;
+pub mod rule;
+pub mod rule_of;
+#[cfg(test)]
+mod tests;
+pub mod way;
+pub mod word;

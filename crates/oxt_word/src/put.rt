@@ -1,0 +1,255 @@
+//! Items at the end of a word.
+ghost use Rattle.std.specs.Prelude.{◌≡◌, ◌∷◌, [], ◌++◌, IfOk, OnOk, map, not, codes, if◌then◌else◌};
+ghost use Rattle.oxt_table.specs.Field.{row_view};
+ghost use Rattle.oxt_table.specs.Rows.{row_of};
+ghost use Rattle.oxt_tree.specs.Fields.{first};
+ghost use Rattle.oxt_tree.specs.Doc.{flag, nil, text};
+ghost use Rattle.oxt_tree.specs.Fields.{named, is_nil};
+ghost use Rattle.oxt_tree.specs.View.{docs_in, part_doc};
+ghost use Rattle.oxt_item.specs.Entry.{atom_doc, binding_text, detail, detailed, entries, entry_of, lone, spelled};
+ghost use Rattle.oxt_word.specs.Node.{details, is_atom, is_detail, is_read, start};
+ghost use Rattle.oxt_word.specs.Whole.{hash_word, number_word};
+
+use oxt_item::item::{Atom, Binding, Item, Mark};
+use oxt_table::holds::{Holds, Row};
+use oxt_table::kind::Kind;
+use oxt_tree::ids::OutOfMemory;
+use oxt_tree::tree::{Node, Part};
+use std::alloc::Global;
+use std::vec;
+
+/// Puts an item at the end.
+#[tactic(auto, using(crate::proofs::Appends::one_more))]
+pub fn put(item: Item, out: &mut Vec<Item>) -> Result<(), OutOfMemory>
+    ensures { OnOk result (entries out.new.items ≡ entries out.old.items ++ entry_of item ∷ []) }
+{
+    out.push(item)?;
+    Ok(())
+}
+
+/// Puts an item that is not spelled.
+pub fn put_lone(alloc: Global, mark: Mark, out: &mut Vec<Item>) -> Result<(), OutOfMemory>
+    ensures { OnOk result (entries out.new.items ≡ entries out.old.items ++ lone mark) }
+{
+    put_spelled(alloc, mark, Atom::Nothing, out)
+}
+
+/// Puts an item with that spelling.
+pub fn put_spelled(
+    alloc: Global,
+    mark: Mark,
+    spelling: Atom,
+    out: &mut Vec<Item>,
+) -> Result<(), OutOfMemory>
+    ensures { OnOk result (entries out.new.items
+        ≡ entries out.old.items ++ spelled mark (atom_doc spelling)) }
+{
+    put_detailed(mark, spelling, Vec::new(alloc), out)
+}
+
+/// Puts an item with that spelling and these further texts and flags.
+pub fn put_detailed(
+    mark: Mark,
+    spelling: Atom,
+    details: Vec<Atom>,
+    out: &mut Vec<Item>,
+) -> Result<(), OutOfMemory>
+    ensures { OnOk result (entries out.new.items
+        ≡ entries out.old.items ++ detailed mark (atom_doc spelling) (map atom_doc details.items)) }
+{
+    let item = Item {
+        mark,
+        spelling,
+        details,
+    };
+    put(item, out)
+}
+
+/// Puts the start of a node of that kind.
+pub fn put_start(kind: Kind, details: Vec<Atom>, out: &mut Vec<Item>) -> Result<(), OutOfMemory>
+    ensures { OnOk result (entries out.new.items
+        ≡ entries out.old.items ++ start kind (map atom_doc details.items)) }
+{
+    put_detailed(Mark::Open, Atom::Kind(kind), details, out)
+}
+
+/// Puts the start of the node, with its texts and flags.
+pub fn put_open(alloc: Global, node: &Node, out: &mut Vec<Item>) -> Result<(), OutOfMemory>
+    ensures { OnOk result (entries out.new.items
+        ≡ entries out.old.items ++ start node.now.kind
+        (details (row_of node.now.kind) (docs_in node.now.parts.items))) }
+{
+    let details = details_of(alloc, node.kind.rows(), &node.parts)?;
+    put_start(node.kind, details, out)
+}
+
+/// The texts and flags among the parts of a node with these rows.
+#[tactic(auto, using(crate::proofs::Details::detail_more, crate::proofs::Details::no_more_rows, crate::proofs::Details::no_more_parts))]
+fn details_of(alloc: Global, rows: &[Row], parts: &[Part]) -> Result<Vec<Atom>, OutOfMemory>
+    ensures { IfOk result (λ v. map atom_doc v.items
+        ≡ details (map row_view rows.now) (docs_in parts.now)) }
+{
+    let mut found = Vec::new(alloc);
+    for (i, row) in rows.iter().enumerate() {
+        match parts.get(i) {
+            Some(part) => put_detail(row, part, &mut found)?,
+            None => return Ok(found),
+        }
+    }
+    Ok(found)
+}
+
+/// Puts what the part holds, if it is a text or a flag of its node.
+fn put_detail(row: &Row, part: &Part, found: &mut Vec<Atom>) -> Result<(), OutOfMemory>
+    ensures { OnOk result (map atom_doc found.new.items
+        ≡ (if is_detail (row_view row.now)
+        then map atom_doc found.old.items ++ detail (part_doc part.now) ∷ []
+        else map atom_doc found.old.items)) }
+{
+    if is_detail(row) {
+        found.push(atom_of(part)?)?;
+    }
+    Ok(())
+}
+
+/// Whether the field is a text or a flag of its node.
+fn is_detail(row: &Row) -> bool
+    ensures { result ≡ is_detail (row_view row.now) }
+{
+    is_atom(row.holds) && (!row.presence.is_typescript() && !(row.name == "shorthand"))
+}
+
+/// Whether the nodes in the field are read.
+pub fn is_read(row: &Row) -> bool
+    ensures { result ≡ is_read (row_view row.now) }
+{
+    !is_atom(row.holds) && !row.presence.is_typescript()
+}
+
+/// Whether a field holds a text, a number, a word or a flag.
+fn is_atom(holds: Holds) -> bool
+    ensures { result ≡ is_atom holds }
+{
+    match holds {
+        Holds::Text => true,
+        Holds::TextOrNull => true,
+        Holds::Flag => true,
+        Holds::WholeOrNull => true,
+        Holds::Word(_) => true,
+        Holds::WordOrNull(_) => true,
+        _ => false,
+    }
+}
+
+/// The text, number or flag itself, and nothing for a list or a node.
+pub fn atom_of(part: &Part) -> Result<Atom, OutOfMemory>
+    ensures { IfOk result (λ atom. atom_doc atom ≡ detail (part_doc part.now)) }
+{
+    Ok(match part {
+        Part::Flag(flag) => Atom::Flag(*flag),
+        Part::Number(number) => Atom::Number(*number),
+        Part::Text(name) => Atom::Text(name.share()?),
+        Part::Word(word) => Atom::Word(*word),
+        _ => Atom::Nothing,
+    })
+}
+
+/// The text that stands first in the node.
+pub fn first_atom(node: &Node) -> Result<Atom, OutOfMemory>
+    ensures { IfOk result (λ atom. atom_doc atom ≡ detail (first (docs_in node.now.parts.items))) }
+{
+    match node.parts.first() {
+        Some(part) => atom_of(part),
+        None => Ok(Atom::Nothing),
+    }
+}
+
+/// What the field of that name holds.
+pub fn field_atom(node: &Node, name: &str) -> Result<Atom, OutOfMemory>
+    ensures { IfOk result (λ atom. atom_doc atom
+        ≡ detail (named name.now node.now.kind (docs_in node.now.parts.items))) }
+{
+    match node.field(name) {
+        Some(part) => atom_of(part),
+        None => Ok(Atom::Nothing),
+    }
+}
+
+/// Puts the node's own text, as an item.
+pub fn put_first(
+    alloc: Global,
+    mark: Mark,
+    node: &Node,
+    out: &mut Vec<Item>,
+) -> Result<(), OutOfMemory>
+    ensures { OnOk result (entries out.new.items
+        ≡ entries out.old.items ++ spelled mark (detail (first (docs_in node.now.parts.items)))) }
+{
+    put_spelled(alloc, mark, first_atom(node)?, out)
+}
+
+/// Puts the name, which is declared as that.
+pub fn put_bind(
+    alloc: Global,
+    binding: Binding,
+    node: &Node,
+    out: &mut Vec<Item>,
+) -> Result<(), OutOfMemory>
+    ensures { OnOk result (entries out.new.items
+        ≡ entries out.old.items ++ detailed Mark.Bind
+        (detail (first (docs_in node.now.parts.items))) (text (binding_text binding) ∷ [])) }
+{
+    let details = vec![in alloc; Atom::Binding(binding)]?;
+    put_detailed(Mark::Bind, first_atom(node)?, details, out)
+}
+
+/// Puts the entry into a function, whose parameter is the name, by a call with that pure flag.
+pub fn put_in(
+    alloc: Global,
+    pure: bool,
+    node: &Node,
+    out: &mut Vec<Item>,
+) -> Result<(), OutOfMemory>
+    ensures { OnOk result (entries out.new.items
+        ≡ entries out.old.items ++ detailed Mark.In
+        (detail (first (docs_in node.now.parts.items))) (flag pure ∷ [])) }
+{
+    let details = vec![in alloc; Atom::Flag(pure)]?;
+    put_detailed(Mark::In, first_atom(node)?, details, out)
+}
+
+/// Puts the start of a field of a class.
+pub fn put_field_start(
+    alloc: Global,
+    is_static: bool,
+    is_accessor: bool,
+    out: &mut Vec<Item>,
+) -> Result<(), OutOfMemory>
+    ensures { OnOk result (entries out.new.items
+        ≡ entries out.old.items
+        ++ detailed Mark.Field nil (flag is_static ∷ flag is_accessor ∷ [])) }
+{
+    let details = vec![in alloc; Atom::Flag(is_static), Atom::Flag(is_accessor)]?;
+    put_detailed(Mark::Field, Atom::Nothing, details, out)
+}
+
+/// Puts a number, or its raw text where it has no value.
+pub fn put_number(alloc: Global, node: &Node, out: &mut Vec<Item>) -> Result<(), OutOfMemory>
+    ensures { OnOk result (entries out.new.items
+        ≡ entries out.old.items ++ number_word node.now.kind (docs_in node.now.parts.items)) }
+{
+    let name = if node.lacks("value") { "raw" } else { "value" };
+    put_spelled(alloc, Mark::Num, field_atom(node, name)?, out)
+}
+
+/// Puts the first line for the system, where there is one.
+pub fn put_hash(alloc: Global, node: &Node, out: &mut Vec<Item>) -> Result<(), OutOfMemory>
+    ensures { OnOk result (entries out.new.items
+        ≡ entries out.old.items
+        ++ hash_word (named (codes "hashbang") node.now.kind (docs_in node.now.parts.items))) }
+{
+    if node.lacks("hashbang") {
+        return Ok(());
+    }
+    put_spelled(alloc, Mark::Hash, field_atom(node, "hashbang")?, out)
+}
