@@ -21,7 +21,7 @@ class Field:
 class Grammar:
     def __init__(self, text):
         self.words, self.categories, self.kinds = {}, {}, {}
-        self.conditions, self.settings, self.rules = {}, {}, {}
+        self.conditions, self.settings, self.rules, self.roles = {}, {}, {}, {}
         self.typescript, self.typescript_of, self.unbuilt = set(), set(), set()
         for line in text.splitlines():
             self.take(line.split("#")[0].strip())
@@ -50,6 +50,9 @@ class Grammar:
         elif first == "rule":
             rule, kinds = rest.split(" = ")
             self.rules |= {k: rule.replace("~", " ") for k in kinds.split()}
+        elif first == "role":
+            role, kinds = rest.split(" = ")
+            self.roles |= {k: role for k in kinds.split()}
         elif first == "unbuilt":
             self.unbuilt |= set(rest.split())
         elif first == "typescript":
@@ -596,6 +599,53 @@ VIEWED = """Program ExpressionStatement IfStatement ForStatement ForInStatement 
 DoWhileStatement LabeledStatement WithStatement VariableDeclaration VariableDeclarator ParenthesizedExpression
 TSAsExpression TSSatisfiesExpression TSTypeAssertion TSNonNullExpression TSInstantiationExpression""".split()
 
+def roles_by_kind(g):
+    """The role of each kind that has one; a category stands for its kinds."""
+    found = {}
+    for name, role in g.roles.items():
+        found |= {kind: role for kind in g.categories.get(name, [name])}
+    return [(kind, found[kind]) for kind in g.kinds if kind in found]
+
+
+def roles_source(g):
+    arms = "\n".join(f"        Kind::{kind} => Role::{role}," for kind, role in roles_by_kind(g))
+    return f"""// {NOTE}
+//! What nodes of a kind are to scopes.
+ghost use Rattle.std.specs.Prelude.{{◌≡◌}};
+ghost use Rattle.oxt_declares.specs.RoleOf.{{role_of}};
+
+use crate::role::Role;
+use oxt_table::kind::Kind;
+
+/// The role of a kind.
+#[tactic(auto, unfolding(crate::specs::RoleOf::role_of))]
+pub fn role_of(kind: Kind) -> Role
+    ensures {{ result ≡ role_of kind }}
+{{
+    match kind {{
+{arms}
+        _ => Role::Plain,
+    }}
+}}
+"""
+
+
+def roles_spec(g):
+    cases = "\n".join(f"role_of kind.{kind} = role.{role}" for kind, role in roles_by_kind(g))
+    return f"""-- {NOTE}
+-- What nodes of a kind are to scopes.
+use Rattle.oxt_table.specs.declared.kind.Kind.{{Kind}}
+use Rattle.oxt_table.specs.declared.kind.Kind.TheVariants as kind
+use Rattle.oxt_declares.specs.declared.role.Role.{{Role}}
+use Rattle.oxt_declares.specs.declared.role.Role.TheVariants as role
+
+-- the role of a kind
+unfoldable pub role_of : Kind → Role
+{cases}
+role_of k = role.Plain
+"""
+
+
 # the reserved words among the names of fields
 RESERVED = "abstract async await const override static type".split()
 
@@ -699,6 +749,8 @@ def main():
         "docs/GRAMMAR.md": grammar_doc(g),
         "crates/oxt_erase/src/unbuilt_kinds.rt": unbuilt_source(g),
         "crates/oxt_erase/specs/UnbuiltKinds.antt": unbuilt_spec(g),
+        "crates/oxt_declares/src/role_of.rt": roles_source(g),
+        "crates/oxt_declares/specs/RoleOf.antt": roles_spec(g),
         "crates/oxt_word/src/rule_of.rt": word_rules_source(g),
         "crates/oxt_word/specs/RuleOf.antt": word_rules_spec(g),
     }

@@ -9,9 +9,10 @@ use Rattle.oxt_io.specs.Counts.{Rose}
 use Rattle.oxt_io.specs.Passed.{GaveAll}
 use Rattle.oxt_transform.specs.Faults.{refusal_in, IsReasonFor}
 use Rattle.oxt_transform.specs.Outcomes.{IfRefused, IsDoneOrMemory, IsRefusedMemoryOrWriteFault, NothingStands, OnWriteFault, Reported}
+use Rattle.oxt_transform.specs.Settings.{is_script, wrong_setting}
 use Rattle.oxt_transform.specs.declared.program.Outcome.{Outcome}
 use Rattle.oxt_transform.specs.declared.program.Outcome.TheVariants.{Done, Refused, Usage, ReadFault, WriteFault, Memory, TooLong}
-use Rattle.oxt_transform.specs.Refusals.{Difference, misfit_at, typescript_at, item_at, Refusal, json, shape, unbuilt_form, uncertified, Judges, HasUnbuilt, IsTested, Refuses, Accepts}
+use Rattle.oxt_transform.specs.Refusals.{Difference, misfit_at, typescript_at, setting_at, item_at, Refusal, json, shape, unbuilt_form, uncertified, Judges, HasUnbuilt, IsTested, Refuses, Accepts}
 use Rattle.oxt_tree.specs.Doc.{Doc}
 use Rattle.oxt_tree.specs.declared.name.Name.{Name}
 use Rattle.oxt_valid.proofs.Decisions.{no_tree, not_plain}
@@ -30,10 +31,14 @@ true_and_false : (b : Bool) → b ≡ true → b ≡ false → ⊥
 true_and_false b p q = false≢true (sym q ∙ p)
 
 -- One test does not say two things.
-never_two : (d : Difference) (before : List Entry) (output : Doc) → Judges before output (Some d) → Judges before output None → ⊥
-never_two (misfit_at place) before output h k = true_and_false (is_tree output) k.0 (no_tree output place h)
-never_two (typescript_at place) before output h k = true_and_false (is_plain output) k.1 (not_plain output place h.1)
-never_two (item_at i) before output h k = h.2.1 (ap (λ (w : List Entry). slice_get w i) k.2)
+no_setting_and_one : (o : Option (List ℕ)) (place : List ℕ) → o ≡ Some place → o ≡ None → ⊥
+no_setting_and_one o place p q = cc
+
+never_two : (d : Difference) (before : List Entry) (was_script : Bool) (output : Doc) → Judges before was_script output (Some d) → Judges before was_script output None → ⊥
+never_two (misfit_at place) before was_script output h k = true_and_false (is_tree output) k.0 (no_tree output place h)
+never_two (typescript_at place) before was_script output h k = true_and_false (is_plain output) k.1 (not_plain output place h.1)
+never_two (setting_at place) before was_script output h k = no_setting_and_one (wrong_setting was_script output) place h.2 k.2
+never_two (item_at i) before was_script output h k = h.3.1 (ap (λ (w : List Entry). slice_get w i) k.3)
 
 nothing_read : (bytes : List ℕ) (a : Doc) (m : ℕ) → reading bytes ≡ tree a m → reading bytes ≡ no_value → ⊥
 nothing_read bytes a m p q = let e : tree a m ≡ no_value = sym p ∙ q in cc
@@ -50,7 +55,7 @@ never_both (unbuilt_form kind) bytes h k =
     no_form_and_one (unbuilt k.source) kind (sym (ap unbuilt same) ∙ h.form) k.built
 never_both (uncertified d) bytes h k =
     let same = same_source bytes h.source k.source h.next k.next h.spelled k.spelled in
-    never_two d (word k.source) (erased k.source) (subst (λ (s : Doc). Judges (word s) (erased s) (Some d)) same h.judged) k.judged
+    never_two d (word k.source) (is_script k.source) (erased k.source) (subst (λ (s : Doc). Judges (word s) (is_script s) (erased s) (Some d)) same h.judged) k.judged
 
 same_bytes : (left left' : Option (List ℕ)) (bytes held : List ℕ) → GaveAll left left' bytes → left ≡ Some held → bytes ≡ held
 same_bytes None left' bytes held all e = cc

@@ -2,3 +2,4 @@ pub mod Faults
 pub mod Lowering
 pub mod Outcomes
 pub mod Refusals
+pub mod Settings

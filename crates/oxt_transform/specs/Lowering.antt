@@ -1,14 +1,16 @@
 -- What lowering the bytes of a tree gives.
-use Rattle.std.specs.Prelude.{◌≡◌, ℕ, List, true}
+use Rattle.std.specs.Prelude.{◌≡◌, ℕ, List, true, None}
 use Rattle.oxt_erase.specs.Erased.{erased}
 use Rattle.oxt_json.specs.Spelling.{reading, tree}
 use Rattle.oxt_json_write.specs.Spelled.{text_of}
 use Rattle.oxt_tree.specs.Doc.{Doc}
 use Rattle.oxt_valid.specs.Plain.{is_plain}
 use Rattle.oxt_valid.specs.Valid.{is_tree}
+use Rattle.oxt_transform.specs.Settings.{is_script, wrong_setting}
 use Rattle.oxt_word.specs.Word.{word}
 
--- The bytes spell a source tree, and the text is that of a valid and plain tree that has the source's effect word: the source without its types.
+-- The bytes spell a source tree, and the text is that of a valid and plain tree of JavaScript that has the source's
+-- effect word and is a script where it is one: the source without its types.
 pub record Lowers (bytes text : List ℕ) : Type 0 where
   pub source : Doc
   pub next : ℕ
@@ -17,5 +19,6 @@ pub record Lowers (bytes text : List ℕ) : Type 0 where
   pub erases : output ≡ erased source
   pub valid : is_tree output ≡ true
   pub plain : is_plain output ≡ true
+  pub settings : wrong_setting (is_script source) output ≡ None
   pub same_word : word output ≡ word source
   pub written : text ≡ text_of output

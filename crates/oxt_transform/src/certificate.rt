@@ -1,5 +1,7 @@
 //! The test of a lowered tree, before it is written.
 ghost use Rattle.std.specs.Prelude.{◌≡◌, IfOk, option_map};
+ghost use Rattle.oxt_transform.specs.Settings.{differs, is_javascript, is_script, wrong_setting};
+ghost use Rattle.oxt_tree.specs.Names.{name_bytes};
 ghost use Rattle.oxt_transform.specs.Refusals.{Judges, difference_in};
 ghost use Rattle.oxt_tree.specs.View.{node_doc};
 ghost use Rattle.oxt_item.specs.Entry.{entries};
@@ -21,18 +23,21 @@ pub enum Mismatch {
     Shape { place: Name },
     /// Something of TypeScript is left in it, at this JSON pointer first.
     Plain { place: Name },
+    /// A setting of the program, at this JSON pointer, is not the source's, or names another language.
+    Setting { place: Name },
     /// Its effect word differs from the source's, at this index first.
     Item { index: usize },
 }
 
-/// How the tree fails to be of the grammar, plain, and of the effect word `before`, in this order;
-/// none where it does not fail.
+/// How the tree fails to be of the grammar, plain, a script exactly where the source was one, of
+/// JavaScript, and of the effect word `before`, in this order; none where it does not fail.
 pub fn find_mismatch(
     alloc: Global,
     before: &[Item],
+    was_script: bool,
     output: &Node,
 ) -> Result<Option<Mismatch>, OutOfMemory>
-    ensures { IfOk result (λ mismatch. Judges (entries before.now) (node_doc output.now)
+    ensures { IfOk result (λ mismatch. Judges (entries before.now) was_script (node_doc output.now)
         (option_map difference_in mismatch)) }
 {
     if let Some(place) = first_misfit(alloc, output)? {
@@ -41,9 +46,51 @@ pub fn find_mismatch(
     if let Some(place) = first_typescript(alloc, output)? {
         return Ok(Some(Mismatch::Plain { place }));
     }
+    if let Some(place) = wrong_setting(alloc, was_script, output)? {
+        return Ok(Some(Mismatch::Setting { place }));
+    }
     let after = word_of(alloc, output)?;
     match first_difference(before, after.as_slice()) {
         Some(index) => Ok(Some(Mismatch::Item { index })),
         None => Ok(None),
     }
+}
+
+/// The setting in which the lowered program is wrong.
+fn wrong_setting(
+    alloc: Global,
+    was_script: bool,
+    output: &Node,
+) -> Result<Option<Name>, OutOfMemory>
+    ensures { IfOk result (λ place. option_map name_bytes place
+        ≡ wrong_setting was_script (node_doc output.now)) }
+{
+    if differs(was_script, is_script(output)) {
+        Ok(Some(Name::new(alloc, "/sourceType")?))
+    } else if is_javascript(output) {
+        Ok(None)
+    } else {
+        Ok(Some(Name::new(alloc, "/lang")?))
+    }
+}
+
+/// Whether the program is a script, and no module.
+pub fn is_script(program: &Node) -> bool
+    ensures { result ≡ is_script (node_doc program.now) }
+{
+    program.holds_text("sourceType", "script")
+}
+
+/// Whether the program is one of JavaScript.
+fn is_javascript(program: &Node) -> bool
+    ensures { result ≡ is_javascript (node_doc program.now) }
+{
+    program.holds_text("lang", "js")
+}
+
+/// Whether just one of both holds.
+fn differs(a: bool, b: bool) -> bool
+    ensures { result ≡ differs a b }
+{
+    if a { !b } else { b }
 }

@@ -84,6 +84,7 @@ fn uncertified_line(alloc: Global, mismatch: &Mismatch) -> Result<String, AllocE
     match mismatch {
         Mismatch::Shape { place } => named_line(alloc, "uncertified shape ", place.as_str()),
         Mismatch::Plain { place } => named_line(alloc, "uncertified plain ", place.as_str()),
+        Mismatch::Setting { place } => named_line(alloc, "uncertified setting ", place.as_str()),
         Mismatch::Item { index } => format!(in alloc; "uncertified item {index}\n"),
     }
 }

@@ -1,4 +1,7 @@
 use super::*;
+use crate::certificate::find_mismatch;
+use oxt_json::read_tree;
+use oxt_word::word::word_of;
 use std::test::Fail;
 
 const SOURCE: &str =
@@ -42,5 +45,23 @@ fn a_refusal_is_one_line(rt: HostRuntime) -> Result<(), Fail> {
     assert_eq!(rt; outcome.status(), 2);
     assert_eq!(rt; out.bytes().len(), 0);
     assert_eq!(rt; err.bytes(), b"shape /body\n".as_slice());
+    Ok(())
+}
+
+#[test]
+fn a_setting_is_certified(rt: HostRuntime) -> Result<(), Fail> {
+    let alloc = rt.alloc();
+    let program = match read_tree(alloc, b"{\"type\":\"Program\",\"body\":[]}") {
+        Ok(program) => program,
+        Err(_) => return Err("no tree".into()),
+    };
+    let word = word_of(alloc, &program.root)?;
+    for (was_script, place) in [(false, "/lang"), (true, "/sourceType")] {
+        let mismatch = find_mismatch(alloc, word.as_slice(), was_script, &program.root)?;
+        match mismatch {
+            Some(Mismatch::Setting { place: found }) => assert_eq!(rt; found.as_str(), place),
+            _ => return Err("no setting".into()),
+        }
+    }
     Ok(())
 }

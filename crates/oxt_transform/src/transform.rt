@@ -4,7 +4,7 @@ ghost use Rattle.oxt_transform.specs.Faults.{refusal_in, IsReasonFor, text_in};
 ghost use Rattle.oxt_transform.specs.Lowering.{Lowers};
 ghost use Rattle.oxt_transform.specs.Refusals.{Accepts};
 
-use crate::certificate::find_mismatch;
+use crate::certificate::{find_mismatch, is_script};
 use crate::fault::{Fault, fault_of_reading};
 use oxt_erase::erase::erase_program;
 use oxt_erase::unbuilt::first_unbuilt;
@@ -69,8 +69,9 @@ pub fn transform_text(
         return Err(Fault::Unbuilt { kind });
     }
     let before = word_of(alloc, &program.root)?;
+    let was_script = is_script(&program.root);
     erase_program(alloc, &mut program);
-    if let Some(mismatch) = find_mismatch(alloc, before.as_slice(), &program.root)? {
+    if let Some(mismatch) = find_mismatch(alloc, before.as_slice(), was_script, &program.root)? {
         return Err(Fault::Uncertified { mismatch });
     }
     let bytes = write_tree(alloc, &program)?;

@@ -1,0 +1,157 @@
+//! The constants of expressions without parts that have to be evaluated before.
+ghost use Rattle.std.specs.Prelude.{◌≡◌, IfOk, Some, codes, option_map};
+ghost use Rattle.oxt_constant.specs.Evaluated.{access_of, literal_text, object_member, whole};
+ghost use Rattle.std.specs.Option.{option_and_then};
+ghost use Rattle.oxt_symbol.specs.Constant.{constant_view, string};
+ghost use Rattle.oxt_tree.specs.Fields.{field_of, named, text_in};
+ghost use Rattle.oxt_tree.specs.View.{docs_in, node_doc, part_doc};
+
+use crate::meanings::Meanings;
+use oxt_symbol::constant::ConstantValue;
+use oxt_symbol::integer::signed;
+use oxt_table::kind::Kind;
+use oxt_tree::ids::OutOfMemory;
+use oxt_tree::name::Name;
+use oxt_tree::tree::{Node, Part};
+use std::alloc::Global;
+
+/// The text in the field of that name.
+pub fn text_of<'a>(node: &'a Node, name: &str) -> Option<&'a str>
+    ensures { option_map (λ text. text.now) result
+        ≡ text_in (named name.now node.now.kind (docs_in node.now.parts.items)) }
+{
+    match node.field(name) {
+        Some(part) => part.as_text(),
+        None => None,
+    }
+}
+
+/// The number in the field `value`, where JavaScript's numbers hold it exactly.
+pub fn number_of(node: &Node) -> Option<ConstantValue>
+    ensures { option_map constant_view result
+        ≡ whole (named (codes "value") node.now.kind (docs_in node.now.parts.items)) }
+{
+    match node.field("value") {
+        Some(part) => whole_number(part),
+        None => None,
+    }
+}
+
+/// The number that the part is, where JavaScript's numbers hold it exactly.
+fn whole_number(part: &Part) -> Option<ConstantValue>
+    ensures { option_map constant_view result ≡ whole (part_doc part.now) }
+{
+    match part {
+        Part::Number(number) => match signed(false, *number) {
+            Some(number) => Some(ConstantValue::Number(number)),
+            None => None,
+        },
+        _ => None,
+    }
+}
+
+/// The text in the field `value`.
+pub fn string_of(alloc: Global, node: &Node) -> Result<Option<ConstantValue>, OutOfMemory>
+    ensures { IfOk result
+        (λ value. option_map constant_view value
+        ≡ option_map string (text_in (named (codes "value") node.now.kind (docs_in node.now.parts.items)))) }
+{
+    match text_of(node, "value") {
+        Some(text) => Ok(Some(ConstantValue::Text(Name::new(alloc, text)?))),
+        None => Ok(None),
+    }
+}
+
+/// The constant of the enum member that the bare name means.
+pub fn bare<'a, M: Meanings>(env: &'a M, node: &Node) -> Option<&'a ConstantValue>
+    ensures { option_map (λ value. constant_view value.now) result
+        ≡ option_and_then ((M.env env.now).bare node.now.id.0) (text_in (named (codes "name") node.now.kind (docs_in node.now.parts.items))) }
+{
+    match text_of(node, "name") {
+        Some(name) => env.bare(node.id, name),
+        None => None,
+    }
+}
+
+/// The constant of the enum member after a dot.
+pub fn after_dot<'a, M: Meanings>(env: &'a M, node: &Node) -> Option<&'a ConstantValue>
+    ensures { option_map (λ value. constant_view value.now) result
+        ≡ access_of (M.env env.now) (named (codes "optional") node.now.kind (docs_in node.now.parts.items)) (named (codes "object") node.now.kind (docs_in node.now.parts.items)) (text_in (field_of (codes "name") (named (codes "property") node.now.kind (docs_in node.now.parts.items)))) }
+{
+    match property_name(node) {
+        Some(key) => access(env, node, key),
+        None => None,
+    }
+}
+
+/// The constant of the enum member in brackets.
+pub fn in_brackets<'a, M: Meanings>(env: &'a M, node: &Node) -> Option<&'a ConstantValue>
+    ensures { option_map (λ value. constant_view value.now) result
+        ≡ access_of (M.env env.now) (named (codes "optional") node.now.kind (docs_in node.now.parts.items)) (named (codes "object") node.now.kind (docs_in node.now.parts.items)) (literal_text (named (codes "expression") node.now.kind (docs_in node.now.parts.items))) }
+{
+    match key_text(node) {
+        Some(key) => access(env, node, key),
+        None => None,
+    }
+}
+
+/// The name after the dot.
+fn property_name(node: &Node) -> Option<&str>
+    ensures { option_map (λ name. name.now) result
+        ≡ text_in (field_of (codes "name") (named (codes "property") node.now.kind (docs_in node.now.parts.items))) }
+{
+    match node.field("property") {
+        Some(Part::Node(property)) => text_of(property, "name"),
+        _ => None,
+    }
+}
+
+/// The text in the brackets, if a literal text stands there.
+fn key_text(node: &Node) -> Option<&str>
+    ensures { option_map (λ text. text.now) result
+        ≡ literal_text (named (codes "expression") node.now.kind (docs_in node.now.parts.items)) }
+{
+    match node.field("expression") {
+        Some(Part::Node(key)) => literal(key),
+        _ => None,
+    }
+}
+
+/// The text of a literal text.
+fn literal(node: &Node) -> Option<&str>
+    ensures { option_map (λ text. text.now) result ≡ literal_text (node_doc node.now) }
+{
+    if node.kind.is(Kind::StringLiteral) {
+        text_of(node, "value")
+    } else {
+        None
+    }
+}
+
+/// The constant of the member `key` of the enum that stands before it, unless the access is optional.
+fn access<'a, M: Meanings>(env: &'a M, node: &Node, key: &str) -> Option<&'a ConstantValue>
+    ensures { option_map (λ value. constant_view value.now) result
+        ≡ access_of (M.env env.now) (named (codes "optional") node.now.kind (docs_in node.now.parts.items)) (named (codes "object") node.now.kind (docs_in node.now.parts.items)) (Some key.now) }
+{
+    if node.flag("optional") {
+        return None;
+    }
+    match node.field("object") {
+        Some(Part::Node(object)) => object_member(env, object, key),
+        _ => None,
+    }
+}
+
+/// The constant of the member `key` of the enum that a bare name means.
+fn object_member<'a, M: Meanings>(env: &'a M, object: &Node, key: &str) -> Option<&'a ConstantValue>
+    ensures { option_map (λ value. constant_view value.now) result
+        ≡ object_member (M.env env.now) key.now (node_doc object.now) }
+{
+    if !object.kind.is(Kind::IdentifierReference) {
+        return None;
+    }
+    match text_of(object, "name") {
+        Some(name) => env.member(object.id, name, key),
+        None => None,
+    }
+}

@@ -1,0 +1,11 @@
+//! The constants of enum members, by their initializers.
+#![tactic(auto)]
+
+pub mod evaluate;
+pub mod form;
+pub mod leaf;
+pub mod meanings;
+pub mod member;
+pub mod parts;
+#[cfg(test)]
+mod tests;

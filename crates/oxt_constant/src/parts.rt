@@ -1,0 +1,116 @@
+//! The constants of expressions whose parts have been evaluated.
+ghost use Rattle.std.specs.Prelude.{◌≡◌, ◌++◌, IfOk, OnOk, Some, codes, drop, option_map, string_bytes};
+ghost use Rattle.oxt_constant.specs.Evaluated.{binary_of, constant_views, first_spelling, template_of, template_text, unary_of};
+ghost use Rattle.oxt_symbol.specs.Constant.{constant_view};
+ghost use Rattle.oxt_tree.specs.Fields.{elements, field_of, named, text_in};
+ghost use Rattle.oxt_tree.specs.View.{docs_in, part_doc};
+
+use crate::leaf::text_of;
+use oxt_symbol::constant::ConstantValue;
+use oxt_symbol::operator::{BinaryOperator, UnaryOperator};
+use oxt_tree::ids::OutOfMemory;
+use oxt_tree::name::Name;
+use oxt_tree::tree::{Node, Part};
+use std::alloc::Global;
+
+/// What the operator of the node makes of the operand.
+pub fn unary(node: &Node, operand: &ConstantValue) -> Option<ConstantValue>
+    ensures { option_map constant_view result
+        ≡ unary_of (Some (constant_view operand.now)) (text_in (named (codes "operator") node.now.kind (docs_in node.now.parts.items))) }
+{
+    match text_of(node, "operator") {
+        Some(written) => match UnaryOperator::find(written) {
+            Some(operator) => operator.apply(operand),
+            None => None,
+        },
+        None => None,
+    }
+}
+
+/// What the operator of the node makes of the operands.
+pub fn binary(
+    alloc: Global,
+    node: &Node,
+    left: &ConstantValue,
+    right: &ConstantValue,
+) -> Result<Option<ConstantValue>, OutOfMemory>
+    ensures { IfOk result
+        (λ value. option_map constant_view value
+        ≡ binary_of (Some (constant_view left.now)) (Some (constant_view right.now)) (text_in (named (codes "operator") node.now.kind (docs_in node.now.parts.items)))) }
+{
+    match text_of(node, "operator") {
+        Some(written) => match BinaryOperator::find(written) {
+            Some(operator) => operator.apply(alloc, left, right),
+            None => Ok(None),
+        },
+        None => Ok(None),
+    }
+}
+
+/// The constant of a template with those constants between its texts.
+pub fn template(
+    alloc: Global,
+    node: &Node,
+    values: &[ConstantValue],
+) -> Result<Option<ConstantValue>, OutOfMemory>
+    ensures { IfOk result
+        (λ value. option_map constant_view value
+        ≡ template_of (elements (named (codes "quasis") node.now.kind (docs_in node.now.parts.items))) (Some (constant_views values.now))) }
+{
+    match template_text(alloc, node.list("quasis"), values)? {
+        Some(text) => Ok(Some(ConstantValue::Text(Name::from_string(text)?))),
+        None => Ok(None),
+    }
+}
+
+/// The texts of a template, each with the text of the constant behind it.
+#[tactic(auto, using(crate::proofs::Templates::steps))]
+fn template_text(
+    alloc: Global,
+    quasis: &[Part],
+    values: &[ConstantValue],
+) -> Result<Option<String>, OutOfMemory>
+    ensures { IfOk result
+        (λ text. option_map string_bytes text
+        ≡ template_text (docs_in quasis.now) (constant_views values.now)) }
+{
+    let mut text = String::new(alloc);
+    for (i, quasi) in quasis.iter().enumerate() {
+        match cooked(quasi) {
+            Some(cooked) => push_piece(alloc, &mut text, cooked, values, i)?,
+            None => return Ok(None),
+        }
+    }
+    Ok(Some(text))
+}
+
+/// Appends the text, and that of the constant at the place, if there is one.
+#[tactic(auto, using(crate::proofs::Templates::spellings))]
+fn push_piece(
+    alloc: Global,
+    text: &mut String,
+    cooked: &str,
+    values: &[ConstantValue],
+    place: usize,
+) -> Result<(), OutOfMemory>
+    ensures { OnOk result
+        (string_bytes text.new
+        ≡ string_bytes text.old ++ (cooked.now ++ first_spelling (constant_views (drop place values.now)))) }
+{
+    text.push_str(cooked)?;
+    if place < values.len() {
+        values[place].push_to(alloc, text)?;
+    }
+    Ok(())
+}
+
+/// The text of an element of a template as it is meant.
+fn cooked(quasi: &Part) -> Option<&str>
+    ensures { option_map (λ text. text.now) result
+        ≡ text_in (field_of (codes "cooked") (part_doc quasi.now)) }
+{
+    match quasi {
+        Part::Node(element) => text_of(element, "cooked"),
+        _ => None,
+    }
+}

@@ -1,0 +1,4 @@
+pub mod Appends
+pub mod FoundLoops
+pub mod NameLoops
+pub mod TypeLoops

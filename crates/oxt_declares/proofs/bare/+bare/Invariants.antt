@@ -1,0 +1,13 @@
+-- The names so far stand in front of those of what is left.
+use Rattle.std.proofs.Common.{◌≡◌, ◌++◌, map, drop}
+use Rattle.oxt_table.specs.Field.{row_view}
+use Rattle.oxt_tree.specs.Bound.{names_of_each, names_of_fields}
+use Rattle.oxt_tree.specs.View.{docs_in}
+use Rattle.oxt_declares.specs.Bare.{bare_views}
+use Rattle.oxt_declares.proofs.bare.+bare.Given as goal
+
+abbrev pub invariant-push_each-loop-part : goal.invariant-push_each-loop-part
+invariant-push_each-loop-part l = bare_views l.initial.names.items ++ names_of_each (docs_in l.parts) ≡ bare_views l.names.items ++ names_of_each (docs_in (drop l.part-index l.parts))
+
+abbrev pub invariant-push_fields-loop-i : goal.invariant-push_fields-loop-i
+invariant-push_fields-loop-i l = bare_views l.initial.names.items ++ names_of_fields (docs_in l.parts) (map row_view l.rows) ≡ bare_views l.names.items ++ names_of_fields (docs_in (drop l.i l.parts)) (map row_view (drop l.i l.rows))

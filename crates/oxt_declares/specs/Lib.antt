@@ -1,0 +1,5 @@
+pub mod Bare
+pub mod Declarations
+pub mod Declares
+pub mod RoleOf
+pub mod TypesAlone

@@ -1,0 +1,3 @@
+pub mod OwnerLoops
+pub mod Stacks
+pub mod Tables

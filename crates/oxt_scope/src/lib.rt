@@ -1,0 +1,10 @@
+//! Scopes and owners: what each name of a tree means, by spelling and nesting alone.
+#![tactic(auto)]
+
+pub mod look;
+pub mod owners;
+pub mod scope;
+#[cfg(test)]
+mod tests;
+pub mod usage;
+pub mod way;

@@ -1,0 +1,128 @@
+//! Whether what a declaration says is there at run time.
+ghost use Rattle.std.specs.Prelude.{◌≡◌, codes};
+ghost use Rattle.std.specs.List.{list_any};
+ghost use Rattle.oxt_table.specs.Places.{same_kind};
+ghost use Rattle.oxt_tree.specs.Fields.{is_kind, is_set, is_text, named};
+ghost use Rattle.oxt_tree.specs.Syntax.{erased_kinds, is_erased_kind, lacks_body};
+ghost use Rattle.oxt_tree.specs.View.{docs_in};
+ghost use Rattle.oxt_declares.specs.TypesAlone.{is_of_types};
+ghost use Rattle.oxt_scopes.specs.Standings.{declares_alone, is_erased_alone, is_erased_by, joined, own_standing, standing_in};
+
+use oxt_declares::collect::is_type_only;
+use oxt_declares::role::Role;
+use oxt_declares::role_of::role_of;
+use oxt_declares::types_alone::is_of_types;
+use oxt_table::kind::Kind;
+use oxt_tree::tree::Node;
+
+/// Whether a declaration is there at run time.
+#[derive(Clone, Copy, Debug, PartialEq, Eq)]
+pub enum Standing {
+    /// It is.
+    Emitted,
+    /// It is erased.
+    Erased,
+    /// It is erased, since it says `declare` or stands in one that does.
+    Ambient,
+}
+
+impl Standing {
+    /// The standing of the node, which stands in what has this one.
+    pub fn within(self, node: &Node) -> Standing
+        ensures { result ≡ standing_in self node.now.kind (docs_in node.now.parts.items) }
+    {
+        joined(self, own_standing(node))
+    }
+}
+
+/// The standing of what stands in two of them.
+fn joined(around: Standing, own: Standing) -> Standing
+    ensures { result ≡ joined around own }
+{
+    match around {
+        Standing::Ambient => Standing::Ambient,
+        Standing::Emitted => own,
+        Standing::Erased => match own {
+            Standing::Ambient => Standing::Ambient,
+            _ => Standing::Erased,
+        },
+    }
+}
+
+/// The standing of the node by itself.
+fn own_standing(node: &Node) -> Standing
+    ensures { result ≡ own_standing node.now.kind (docs_in node.now.parts.items) }
+{
+    if declares_alone(node) {
+        return Standing::Ambient;
+    }
+    if is_erased_alone(node) {
+        return Standing::Erased;
+    }
+    Standing::Emitted
+}
+
+/// Whether it is a declaration that says `declare`, or such a field.
+fn declares_alone(node: &Node) -> bool
+    ensures { result ≡ declares_alone node.now.kind (docs_in node.now.parts.items) }
+{
+    !node.kind.is(Kind::FunctionExpression)
+        && (!node.kind.is(Kind::ClassExpression) && node.flag("declare"))
+}
+
+/// Whether it is erased whatever stands around it.
+fn is_erased_alone(node: &Node) -> bool
+    ensures { result ≡ is_erased_alone node.now.kind (docs_in node.now.parts.items) }
+{
+    is_erased_kind(node.kind)
+        || (is_type_only(node)
+            || (node.holds_kind("value", Kind::TSEmptyBodyFunctionExpression)
+                || is_erased_by(role_of(node.kind), node)))
+}
+
+/// Whether it is a namespace of types alone, or a file of definitions.
+fn is_erased_by(role: Role, node: &Node) -> bool
+    ensures { result ≡ is_erased_by role node.now.kind (docs_in node.now.parts.items) }
+{
+    match role {
+        Role::Namespace => match node.field("body") {
+            Some(body) => is_of_types(body),
+            None => false,
+        },
+        Role::Program => node.holds_text("lang", "dts"),
+        _ => false,
+    }
+}
+
+/// Whether nodes of the kind are erased whatever they hold.
+fn is_erased_kind(kind: Kind) -> bool
+    ensures { result ≡ is_erased_kind kind }
+{
+    is_one_of(kind, erased_kinds())
+}
+
+/// Whether the kind is one of the list.
+fn is_one_of(kind: Kind, kinds: &[Kind]) -> bool
+    ensures { result ≡ list_any (λ other. same_kind kind other) kinds.now }
+{
+    kinds.iter().any(|other| kind.is(*other))
+}
+
+/// The kinds whose nodes are erased whatever they hold.
+fn erased_kinds() -> &'static [Kind]
+    ensures { result.now ≡ erased_kinds }
+{
+    &[
+        Kind::TSTypeAliasDeclaration,
+        Kind::TSInterfaceDeclaration,
+        Kind::TSGlobalDeclaration,
+        Kind::TSExternalModuleDeclaration,
+        Kind::TSNamespaceExportDeclaration,
+        Kind::TSDeclareFunction,
+        Kind::TSEmptyBodyFunctionExpression,
+        Kind::TSAbstractMethodDefinition,
+        Kind::TSAbstractPropertyDefinition,
+        Kind::TSAbstractAccessorProperty,
+        Kind::TSIndexSignature,
+    ]
+}

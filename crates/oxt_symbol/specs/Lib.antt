@@ -1,0 +1,4 @@
+pub mod Constant
+pub mod Flags
+pub mod Integer
+pub mod Operators

@@ -1,0 +1,4 @@
+pub mod Additions
+pub mod Candidates
+pub mod Tables
+pub mod Trims

@@ -1,0 +1,9 @@
+//! Made names: each differs from every name of the source and from every name made before.
+#![tactic(auto)]
+
+pub mod base;
+pub mod names;
+pub mod table;
+#[cfg(test)]
+mod tests;
+pub mod uid;
