@@ -1,0 +1,13 @@
+//! Names with their symbols.
+
+use oxt_symbol::ids::SymbolId;
+use oxt_tree::name::Name;
+
+/// A name that is bound, and its symbol.
+#[derive(Debug, Drop)]
+pub struct BoundIdentifier {
+    /// How it is spelled.
+    pub name: Name,
+    /// What it is bound to.
+    pub symbol_id: SymbolId,
+}

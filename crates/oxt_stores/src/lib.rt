@@ -1,0 +1,14 @@
+//! What a transform puts aside while it walks a tree: statements to stand beside others, and
+//! declarators to stand at the top of their lists.
+#![tactic(auto)]
+
+pub mod bound;
+pub mod declarations;
+pub mod injector;
+mod insertions;
+pub mod law;
+mod make;
+pub mod refused;
+pub mod sparse;
+#[cfg(test)]
+mod tests;
