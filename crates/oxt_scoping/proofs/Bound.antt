@@ -1,0 +1,46 @@
+-- The table of a scope's bindings, as contracts see it.
+use Rattle.std.proofs.Common.{◌≡◌, refl, ap, ◌∙◌, ℕ, List, [], ◌∷◌, Bool, true, false, cond, Option, Some, String, string_bytes}
+use Rattle.std.specs.Map.{lookup, remove_entry}
+use Rattle.std.specs.Str.{bytes_eq}
+use Rattle.std.specs.String.{string_eq}
+use Rattle.std.specs.declared.alloc.Global.{Global}
+use Rattle.indexmap.specs.IndexMap.{insert_entry}
+use Rattle.oxt_symbol.specs.declared.flags.ScopeFlags.{ScopeFlags}
+use Rattle.oxt_symbol.specs.declared.ids.ScopeId.{ScopeId}
+use Rattle.oxt_symbol.specs.declared.ids.SymbolId.{SymbolId}
+use Rattle.oxt_scoping.specs.Entries.{Bindings, ScopeData, bind, bound_to, spelled, unbind}
+
+abbrev pub Entry : Type 0
+Entry = String Global × SymbolId
+
+pub bound_inserted : (es : List Entry) (k : String Global) (v : SymbolId) → spelled (insert_entry string_eq es k v) ≡ bind (string_bytes k) v (spelled es)
+bound_inserted [] k v = refl
+bound_inserted (e ∷ es) k v = by (bytes_eq (string_bytes k) (string_bytes e.0)) (bound_inserted es k v)
+  where
+    by : (b : Bool) → spelled (insert_entry string_eq es k v) ≡ bind (string_bytes k) v (spelled es)
+        → spelled (cond b ((e.0, v) ∷ es) (e ∷ insert_entry string_eq es k v)) ≡ cond b ((string_bytes e.0, v) ∷ spelled es) ((string_bytes e.0, e.1) ∷ bind (string_bytes k) v (spelled es))
+    by true rest = refl
+    by false rest = ap (λ bs. (string_bytes e.0, e.1) ∷ bs) rest
+
+pub bound_found : (t : List ℕ) (es : List Entry) → lookup (λ k. bytes_eq t (string_bytes k)) es ≡ bound_to t (spelled es)
+bound_found t [] = refl
+bound_found t (e ∷ es) = ap (λ (o : Option SymbolId). cond (bytes_eq t (string_bytes e.0)) (Some e.1) o) (bound_found t es)
+
+pub bound_removed : (t : List ℕ) (es : List Entry) → spelled (remove_entry (λ k. bytes_eq t (string_bytes k)) es) ≡ unbind t (spelled es)
+bound_removed t [] = refl
+bound_removed t (e ∷ es) = by (bytes_eq t (string_bytes e.0)) (bound_removed t es)
+  where
+    by : (b : Bool) → spelled (remove_entry (λ k. bytes_eq t (string_bytes k)) es) ≡ unbind t (spelled es)
+        → spelled (cond b es (e ∷ remove_entry (λ k. bytes_eq t (string_bytes k)) es)) ≡ cond b (spelled es) ((string_bytes e.0, e.1) ∷ unbind t (spelled es))
+    by true rest = refl
+    by false rest = ap (λ bs. (string_bytes e.0, e.1) ∷ bs) rest
+
+abbrev changed : (Bindings → Bindings) → ScopeData → ScopeData
+changed f s = record { parent = s.parent; flags = s.flags; bindings = f s.bindings }
+
+abbrev put : Option ScopeId → ScopeFlags → Bindings → ScopeData
+put p g bs = record { parent = p; flags = g; bindings = bs }
+
+-- a scope whose bindings are changed
+pub rebound : (f : Bindings → Bindings) (p : Option ScopeId) (g : ScopeFlags) (bs cs : Bindings) (v : ScopeData) → put p g bs ≡ v → cs ≡ f bs → put p g cs ≡ changed f v
+rebound f p g bs cs v is e = ap (put p g) e ∙ ap (changed f) is

@@ -1,0 +1,4 @@
+pub mod Bound
+pub mod Changes
+pub mod Lent
+pub mod Sound

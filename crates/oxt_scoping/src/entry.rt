@@ -1,0 +1,241 @@
+//! What is kept of a scope, of a symbol and of a reference.
+ghost use Rattle.std.specs.Prelude.{◌≡◌, ◌++◌, ◌∷◌, [], IfOk, OnErr, OnOk, string_bytes};
+ghost use Rattle.oxt_scoping.specs.Entries.{bind, bound_to, unbind, without};
+ghost use Rattle.oxt_tree.specs.Names.{name_bytes};
+
+use indexmap::IndexMap;
+use oxt_symbol::flags::{ReferenceFlags, ScopeFlags, SymbolFlags};
+use oxt_symbol::ids::{ReferenceId, ScopeId, SymbolId};
+use oxt_tree::ids::{NodeId, OutOfMemory};
+use oxt_tree::name::Name;
+use std::alloc::Global;
+use std::marker::Model;
+
+/// A declaration of a symbol.
+#[derive(Clone, Copy, Debug, PartialEq, Eq)]
+pub struct Redeclaration {
+    /// The node that is the name.
+    pub node: NodeId,
+    /// What it declares the name as.
+    pub flags: SymbolFlags,
+    /// Whether it emits code.
+    pub emits: bool,
+}
+
+/// A use of a name.
+#[derive(Clone, Copy, Debug, PartialEq, Eq)]
+pub struct Reference {
+    /// The node that is the name.
+    pub node: NodeId,
+    /// The symbol that it means; none where the name is free.
+    pub symbol: Option<SymbolId>,
+    /// How the name is used.
+    pub flags: ReferenceFlags,
+}
+
+/// A reference, and whether it is there still.
+#[derive(Clone, Copy, Debug, PartialEq, Eq)]
+pub struct Slot {
+    pub reference: Reference,
+    pub is_live: bool,
+}
+
+/// A scope.
+#[derive(Drop)]
+pub struct ScopeEntry {
+    parent: Option<ScopeId>,
+    flags: ScopeFlags,
+    bindings: IndexMap<String, SymbolId>,
+}
+
+impl Model for ScopeEntry {
+    ghost use Rattle.oxt_scoping.specs.Entries.{ScopeData, spelled};
+
+    ghost Value = { ScopeData };
+
+    ghost view = { λ s. record { parent = s.parent; flags = s.flags; bindings = spelled s.bindings.entries } };
+}
+
+impl ScopeEntry {
+    ghost use Rattle.std.specs.Borrow.{sem};
+    ghost use Rattle.oxt_scoping.specs.Lending.{LendsOwnScopeFlags};
+
+    /// A scope in that one, which binds nothing.
+    pub fn new(alloc: Global, parent: Option<ScopeId>, flags: ScopeFlags) -> ScopeEntry
+        ensures { result ≡ record { parent = parent; flags = flags; bindings = [] } }
+    {
+        ScopeEntry {
+            parent,
+            flags,
+            bindings: IndexMap::new(alloc),
+        }
+    }
+
+    /// The scope around it; none of the program's.
+    pub fn parent(&self) -> Option<ScopeId>
+        ensures { result ≡ self.now.parent }
+    {
+        self.parent
+    }
+
+    /// What is known of it.
+    pub fn flags(&self) -> ScopeFlags
+        ensures { result ≡ self.now.flags }
+    {
+        self.flags
+    }
+
+    /// What is known of it, to be changed.
+    pub fn flags_mut(&mut self) -> &mut ScopeFlags
+        ensures* writes_back { sem 𝓛 (LendsOwnScopeFlags self.entry result) }
+        ensures value { result.now ≡ self.old.flags }
+    {
+        &mut self.flags
+    }
+
+    /// The symbol that the spelling is bound to.
+    pub fn binding(&self, name: &str) -> Option<SymbolId>
+        ensures { result ≡ bound_to name.now self.now.bindings }
+    {
+        self.bindings.get(name).copied()
+    }
+
+    /// Binds the spelling to the symbol.
+    pub fn bind(&mut self, name: String, symbol: SymbolId) -> Result<(), OutOfMemory>
+        ensures bound { OnOk result
+            (self.new ≡ record self.old { bindings = bind (string_bytes name) symbol self.old.bindings }) }
+        ensures kept { OnErr result (self.new ≡ self.old) }
+    {
+        self.bindings.insert(name, symbol)?;
+        Ok(())
+    }
+
+    /// Binds the spelling to nothing.
+    pub fn unbind(&mut self, name: &str)
+        ensures { self.new ≡ record self.old { bindings = unbind name.now self.old.bindings } }
+    {
+        self.bindings.shift_remove(name);
+    }
+}
+
+/// A symbol.
+#[derive(Drop)]
+pub struct SymbolEntry {
+    name: Name,
+    scope: ScopeId,
+    flags: SymbolFlags,
+    declarations: Vec<Redeclaration>,
+    references: Vec<ReferenceId>,
+}
+
+impl Model for SymbolEntry {
+    ghost use Rattle.oxt_scoping.specs.Entries.{SymbolData};
+    ghost use Rattle.oxt_tree.specs.Names.{name_bytes};
+
+    ghost Value = { SymbolData };
+
+    ghost view = { λ s. record { name = name_bytes s.name; scope = s.scope; flags = s.flags; declarations = s.declarations.items; references = s.references.items } };
+}
+
+impl SymbolEntry {
+    ghost use Rattle.std.specs.Borrow.{sem};
+    ghost use Rattle.oxt_scoping.specs.Lending.{LendsOwnSymbolFlags};
+
+    /// A symbol with one declaration, which nothing means.
+    pub fn declared(
+        alloc: Global,
+        name: &Name,
+        scope: ScopeId,
+        flags: SymbolFlags,
+        declaration: Redeclaration,
+    ) -> Result<SymbolEntry, OutOfMemory>
+        ensures { IfOk result (λ made. made ≡ record { name = name_bytes name.now; scope = scope; flags = flags; declarations = declaration ∷ []; references = [] }) }
+    {
+        let mut declarations = Vec::new(alloc);
+        declarations.push(declaration)?;
+        Ok(SymbolEntry {
+            name: name.share()?,
+            scope,
+            flags,
+            declarations,
+            references: Vec::new(alloc),
+        })
+    }
+
+    /// Its spelling.
+    pub fn name(&self) -> &Name
+        ensures { name_bytes result.now ≡ self.now.name }
+    {
+        &self.name
+    }
+
+    /// Its scope.
+    pub fn scope(&self) -> ScopeId
+        ensures { result ≡ self.now.scope }
+    {
+        self.scope
+    }
+
+    /// What is known of it.
+    pub fn flags(&self) -> SymbolFlags
+        ensures { result ≡ self.now.flags }
+    {
+        self.flags
+    }
+
+    /// What is known of it, to be changed.
+    pub fn flags_mut(&mut self) -> &mut SymbolFlags
+        ensures* writes_back { sem 𝓛 (LendsOwnSymbolFlags self.entry result) }
+        ensures value { result.now ≡ self.old.flags }
+    {
+        &mut self.flags
+    }
+
+    /// Its declarations, in the order of the text.
+    pub fn declarations(&self) -> &[Redeclaration]
+        ensures { result.now ≡ self.now.declarations }
+    {
+        self.declarations.as_slice()
+    }
+
+    /// The references that mean it.
+    pub fn references(&self) -> &[ReferenceId]
+        ensures { result.now ≡ self.now.references }
+    {
+        self.references.as_slice()
+    }
+
+    /// Appends a declaration.
+    pub fn push_declaration(&mut self, declaration: Redeclaration) -> Result<(), OutOfMemory>
+        ensures pushed { OnOk result
+            (self.new ≡ record self.old { declarations = self.old.declarations ++ declaration ∷ [] }) }
+        ensures kept { OnErr result (self.new ≡ self.old) }
+    {
+        self.declarations.push(declaration)?;
+        Ok(())
+    }
+
+    /// Appends a reference.
+    pub fn push_reference(&mut self, reference: ReferenceId) -> Result<(), OutOfMemory>
+        ensures pushed { OnOk result
+            (self.new ≡ record self.old { references = self.old.references ++ reference ∷ [] }) }
+        ensures kept { OnErr result (self.new ≡ self.old) }
+    {
+        self.references.push(reference)?;
+        Ok(())
+    }
+
+    /// Takes the reference out.
+    pub fn remove_reference(&mut self, reference: ReferenceId)
+        ensures { self.new ≡ record self.old { references = without reference self.old.references } }
+    {
+        retain_others(&mut self.references, reference);
+    }
+}
+
+/// Takes the reference out of the list.
+fn retain_others(references: &mut Vec<ReferenceId>, reference: ReferenceId)
+    ensures { references.new.items ≡ without reference references.old.items }
+{
+    references.retain(|other| other.0 != reference.0);
+}

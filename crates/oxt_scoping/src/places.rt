@@ -1,0 +1,192 @@
+//! Entries by their places.
+ghost use Rattle.std.specs.Prelude.{◌≡◌, ◌<◌, ◌++◌, ◌∷◌, [], IfSome, OnErr, OnOk, Some, is_some, length, nat_eq, slice_get, string_bytes, vec_capacity, vec_len};
+ghost use Rattle.indexmap.specs.IndexMap.{insert_entry, spare};
+ghost use Rattle.oxt_scoping.specs.Scoped.{bound_at, declared_again, deleted_at, forgotten_by, found_within, live_at, meant_at, meant_by, unbound_at};
+
+use crate::entry::{Redeclaration, ScopeEntry, Slot, SymbolEntry};
+use indexmap::IndexMap;
+use oxt_symbol::ids::{ReferenceId, ScopeId, SymbolId};
+use oxt_tree::ids::{NodeId, OutOfMemory};
+
+/// The scope with that number.
+pub fn scope_at(scopes: &[ScopeEntry], scope: ScopeId) -> &ScopeEntry
+    requires { scope.0 < length scopes.now }
+    ensures { slice_get scopes.now scope.0 ≡ Some result.now }
+{
+    &scopes[scope.0 as usize]
+}
+
+/// The symbol with that number.
+pub fn symbol_at(symbols: &[SymbolEntry], symbol: SymbolId) -> &SymbolEntry
+    requires { symbol.0 < length symbols.now }
+    ensures { slice_get symbols.now symbol.0 ≡ Some result.now }
+{
+    &symbols[symbol.0 as usize]
+}
+
+/// The reference with that number.
+pub fn slot_at(slots: &[Slot], reference: ReferenceId) -> &Slot
+    requires { reference.0 < length slots.now }
+    ensures { slice_get slots.now reference.0 ≡ Some result.now }
+{
+    &slots[reference.0 as usize]
+}
+
+/// Whether there is a reference with the number, and was not deleted.
+pub fn is_live(slots: &[Slot], reference: ReferenceId) -> bool
+    ensures { result ≡ is_some (live_at slots.now reference.0) }
+{
+    match slots.get(reference.0 as usize) {
+        Some(slot) => slot.is_live,
+        None => false,
+    }
+}
+
+/// The symbol that the name is bound to in the innermost scope that has it, from that one outwards
+/// through at most so many.
+pub fn find_within(
+    scopes: &[ScopeEntry],
+    left: usize,
+    scope: Option<ScopeId>,
+    name: &str,
+) -> Option<SymbolId>
+    ensures { result ≡ found_within left scopes.now name.now scope }
+{
+    if left == 0 {
+        return None;
+    }
+    let scope = scope?;
+    if scope.0 as usize >= scopes.len() {
+        return None;
+    }
+    let entry = scope_at(scopes, scope);
+    match entry.binding(name) {
+        Some(symbol) => Some(symbol),
+        None => find_within(scopes, left - 1, entry.parent(), name),
+    }
+}
+
+/// Binds the name to the symbol in the scope.
+pub fn bind_in(
+    scopes: &mut Vec<ScopeEntry>,
+    scope: ScopeId,
+    name: String,
+    symbol: SymbolId,
+) -> Result<(), OutOfMemory>
+    requires { scope.0 < length scopes.old.items }
+    ensures bound { OnOk result
+        (scopes.new.items ≡ bound_at scope.0 (string_bytes name) symbol scopes.old.items) }
+    ensures kept { OnErr result (scopes.new.items ≡ scopes.old.items) }
+{
+    let entry = &mut scopes[scope.0 as usize];
+    entry.bind(name, symbol)
+}
+
+/// Binds the name to nothing in the scope.
+pub fn unbind_in(scopes: &mut Vec<ScopeEntry>, scope: ScopeId, name: &str)
+    requires { scope.0 < length scopes.old.items }
+    ensures { scopes.new.items ≡ unbound_at scope.0 name.now scopes.old.items }
+{
+    let entry = &mut scopes[scope.0 as usize];
+    entry.unbind(name);
+}
+
+/// Adds the declaration to the symbol.
+pub fn declare_in(
+    symbols: &mut Vec<SymbolEntry>,
+    symbol: SymbolId,
+    declaration: Redeclaration,
+) -> Result<(), OutOfMemory>
+    requires { symbol.0 < length symbols.old.items }
+    ensures pushed { OnOk result
+        (symbols.new.items ≡ declared_again symbol.0 declaration symbols.old.items) }
+    ensures kept { OnErr result (symbols.new.items ≡ symbols.old.items) }
+{
+    let entry = &mut symbols[symbol.0 as usize];
+    entry.push_declaration(declaration)
+}
+
+/// Adds the reference to what means the symbol, if there is one.
+pub fn refer_in(
+    symbols: &mut Vec<SymbolEntry>,
+    symbol: Option<SymbolId>,
+    reference: ReferenceId,
+) -> Result<(), OutOfMemory>
+    requires { IfSome symbol (λ meant. meant.0 < length symbols.old.items) }
+    ensures pushed { OnOk result
+        (symbols.new.items ≡ meant_by reference symbol symbols.old.items) }
+    ensures kept { OnErr result (symbols.new.items ≡ symbols.old.items) }
+{
+    match symbol {
+        Some(symbol) => push_in(symbols, symbol, reference),
+        None => Ok(()),
+    }
+}
+
+/// Adds the reference to what means the symbol.
+fn push_in(
+    symbols: &mut Vec<SymbolEntry>,
+    symbol: SymbolId,
+    reference: ReferenceId,
+) -> Result<(), OutOfMemory>
+    requires { symbol.0 < length symbols.old.items }
+    ensures pushed { OnOk result
+        (symbols.new.items ≡ meant_by reference (Some symbol) symbols.old.items) }
+    ensures kept { OnErr result (symbols.new.items ≡ symbols.old.items) }
+{
+    let entry = &mut symbols[symbol.0 as usize];
+    entry.push_reference(reference)
+}
+
+/// Takes the reference out of what means the symbol, if there is one.
+pub fn forget_in(symbols: &mut Vec<SymbolEntry>, symbol: Option<SymbolId>, reference: ReferenceId)
+    ensures { symbols.new.items ≡ forgotten_by reference symbol symbols.old.items }
+{
+    match symbol {
+        Some(symbol) => remove_in(symbols, symbol, reference),
+        None => {}
+    }
+}
+
+/// Takes the reference out of what means the symbol.
+fn remove_in(symbols: &mut Vec<SymbolEntry>, symbol: SymbolId, reference: ReferenceId)
+    ensures { symbols.new.items ≡ forgotten_by reference (Some symbol) symbols.old.items }
+{
+    if (symbol.0 as usize) < symbols.len() {
+        let entry = &mut symbols[symbol.0 as usize];
+        entry.remove_reference(reference);
+    }
+}
+
+/// Deletes the reference, and says which symbol it means.
+pub fn delete_in(slots: &mut Vec<Slot>, reference: ReferenceId) -> Option<SymbolId>
+    requires { reference.0 < length slots.old.items }
+    ensures symbol { result ≡ meant_at slots.old.items reference.0 }
+    ensures deleted { slots.new.items ≡ deleted_at reference.0 slots.old.items }
+{
+    let slot = &mut slots[reference.0 as usize];
+    slot.is_live = false;
+    slot.reference.symbol
+}
+
+/// Puts the item at the end of the list, which has room for it.
+pub fn push_reserved<T: Drop>(list: &mut Vec<T>, item: T)
+    requires { vec_len list.old < vec_capacity list.old }
+    ensures { list.new.items ≡ list.old.items ++ item ∷ [] }
+{
+    match list.push(item) {
+        Ok(()) => {}
+        Err(_) => {}
+    }
+}
+
+/// Puts the value at the node's number in the table, which has room for it.
+pub fn put_reserved<V: Copy>(table: &mut IndexMap<u64, V>, node: NodeId, value: V)
+    requires { 0 < spare table.old }
+    ensures { table.new.entries ≡ insert_entry nat_eq table.old.entries node.0 value }
+{
+    match table.insert(node.0, value) {
+        Ok(_) => {}
+        Err(_) => {}
+    }
+}

@@ -1,0 +1,392 @@
+//! The table of a program's scopes, symbols and references.
+ghost use Rattle.std.specs.Prelude.{◌≡◌, ◌<◌, ◌++◌, ◌∷◌, [], IfOk, IfSome, IsSome, IsTrue, IsOk, None, OnErr, OnOk, Some, false, is_some, length, nat_lt, option_map, slice_get, true};
+ghost use Rattle.oxt_tree.specs.Names.{name_bytes};
+ghost use Rattle.oxt_uid.specs.Made.{is_among, made_name};
+ghost use Rattle.oxt_scoping.specs.Scoped.{at_node, binding_at, found_outwards, live_at, new_scope, new_symbol, still, unbound_at, with_declaration, with_opened_scope, with_reference, with_scope, with_symbol, without_reference};
+
+use crate::entry::{Redeclaration, Reference, ScopeEntry, Slot, SymbolEntry};
+use crate::places::{
+    bind_in, declare_in, delete_in, find_within, forget_in, is_live, push_reserved, put_reserved,
+    refer_in, scope_at, slot_at, symbol_at, unbind_in,
+};
+use indexmap::IndexMap;
+use oxt_symbol::flags::{ReferenceFlags, ScopeFlags, SymbolFlags};
+use oxt_symbol::ids::{ReferenceId, ScopeId, SymbolId};
+use oxt_tree::ids::{NodeId, OutOfMemory};
+use oxt_tree::name::Name;
+use oxt_uid::uid::UidNames;
+use std::alloc::Global;
+use std::marker::Model;
+use std::vec;
+
+/// The scopes, symbols and references of a program, and the names that are taken.
+#[derive(Drop)]
+pub struct Scoping {
+    alloc: Global,
+    scopes: Vec<ScopeEntry>,
+    symbols: Vec<SymbolEntry>,
+    references: Vec<Slot>,
+    opened: IndexMap<u64, ScopeId>,
+    declared: IndexMap<u64, SymbolId>,
+    named: IndexMap<u64, ReferenceId>,
+    names: UidNames,
+}
+
+impl Model for Scoping {
+    ghost use Rattle.oxt_scoping.specs.Scoped.{Scoped, IsSound};
+
+    ghost Value = { Scoped };
+
+    ghost view = { λ s. record { scopes = s.scopes.items; symbols = s.symbols.items; references = s.references.items; opened = s.opened.entries; declared = s.declared.entries; named = s.named.entries; taken = s.names } };
+
+    ghost invariant = { λ s. IsSound (record { scopes = s.scopes.items; symbols = s.symbols.items; references = s.references.items; opened = s.opened.entries; declared = s.declared.entries; named = s.named.entries; taken = s.names }) };
+}
+
+impl Scoping {
+    ghost use Rattle.std.specs.Borrow.{sem};
+    ghost use Rattle.oxt_scoping.specs.Lending.{LendsReference, LendsScopeFlags, LendsSymbolFlags};
+
+    /// The table of a program of which only the scope is known, where these names are taken.
+    pub fn new(alloc: Global, flags: ScopeFlags, names: UidNames) -> Result<Scoping, OutOfMemory>
+        ensures { IfOk result
+            (λ made. made ≡ record { scopes = new_scope None flags ∷ []; symbols = []; references = []; opened = []; declared = []; named = []; taken = names }) }
+    {
+        let root = ScopeEntry::new(alloc, None, flags);
+        let mut scopes = Vec::new(alloc);
+        scopes.push(root)?;
+        Ok(Scoping {
+            alloc,
+            scopes,
+            symbols: Vec::new(alloc),
+            references: Vec::new(alloc),
+            opened: IndexMap::new(alloc),
+            declared: IndexMap::new(alloc),
+            named: IndexMap::new(alloc),
+            names,
+        })
+    }
+
+    /// The scope of the program.
+    pub fn root_scope_id(&self) -> ScopeId
+        ensures first { result.0 ≡ 0 }
+        ensures live { result.0 < length self.now.scopes }
+    {
+        let _scopes = &self.scopes;
+        ScopeId(0)
+    }
+
+    /// The scope that the node opens.
+    pub fn scope_of(&self, node: NodeId) -> Option<ScopeId>
+        ensures entry { result ≡ at_node node self.now.opened }
+        ensures live { IfSome result (λ scope. scope.0 < length self.now.scopes) }
+    {
+        self.opened.get(&node.0).copied()
+    }
+
+    /// The symbol that the node declares.
+    pub fn symbol_of(&self, node: NodeId) -> Option<SymbolId>
+        ensures entry { result ≡ at_node node self.now.declared }
+        ensures live { IfSome result (λ symbol. symbol.0 < length self.now.symbols) }
+    {
+        self.declared.get(&node.0).copied()
+    }
+
+    /// The reference of the node, unless it was deleted.
+    pub fn reference_of(&self, node: NodeId) -> Option<ReferenceId>
+        ensures entry { result ≡ still self.now.references (at_node node self.now.named) }
+        ensures live { IfSome result (λ reference. IsSome (live_at self.now.references reference.0)) }
+    {
+        let reference = self.named.get(&node.0).copied()?;
+        if is_live(self.references.as_slice(), reference) {
+            Some(reference)
+        } else {
+            None
+        }
+    }
+
+    /// Whether there is a scope with the number.
+    pub fn has_scope(&self, scope: ScopeId) -> bool
+        ensures { result ≡ nat_lt scope.0 (length self.now.scopes) }
+    {
+        (scope.0 as usize) < self.scopes.len()
+    }
+
+    /// Whether there is a symbol with the number.
+    pub fn has_symbol(&self, symbol: SymbolId) -> bool
+        ensures { result ≡ nat_lt symbol.0 (length self.now.symbols) }
+    {
+        (symbol.0 as usize) < self.symbols.len()
+    }
+
+    /// Whether there is a reference with the number, and was not deleted.
+    pub fn has_reference(&self, reference: ReferenceId) -> bool
+        ensures { result ≡ is_some (live_at self.now.references reference.0) }
+    {
+        is_live(self.references.as_slice(), reference)
+    }
+
+    /// The symbol that the name is bound to in the scope.
+    pub fn get_binding(&self, scope: ScopeId, name: &str) -> Option<SymbolId>
+        requires { scope.0 < length self.now.scopes }
+        ensures bound { result ≡ binding_at self.now.scopes scope.0 name.now }
+        ensures live { IfSome result (λ symbol. symbol.0 < length self.now.symbols) }
+    {
+        scope_at(self.scopes.as_slice(), scope).binding(name)
+    }
+
+    /// The symbol that the name is bound to in the innermost scope that has it, from this one
+    /// outwards.
+    pub fn find_binding(&self, scope: ScopeId, name: &str) -> Option<SymbolId>
+        requires { scope.0 < length self.now.scopes }
+        ensures found { result ≡ found_outwards self.now.scopes scope name.now }
+        ensures live { IfSome result (λ symbol. symbol.0 < length self.now.symbols) }
+    {
+        find_within(self.scopes.as_slice(), self.scopes.len(), Some(scope), name)
+    }
+
+    /// What is known of the symbol.
+    pub fn symbol_flags(&self, symbol: SymbolId) -> SymbolFlags
+        requires { symbol.0 < length self.now.symbols }
+        ensures { option_map (λ y. y.flags) (slice_get self.now.symbols symbol.0) ≡ Some result }
+    {
+        symbol_at(self.symbols.as_slice(), symbol).flags()
+    }
+
+    /// The scope of the symbol.
+    pub fn symbol_scope_id(&self, symbol: SymbolId) -> ScopeId
+        requires { symbol.0 < length self.now.symbols }
+        ensures scope { option_map (λ y. y.scope) (slice_get self.now.symbols symbol.0) ≡ Some result }
+        ensures live { result.0 < length self.now.scopes }
+    {
+        symbol_at(self.symbols.as_slice(), symbol).scope()
+    }
+
+    /// The spelling of the symbol.
+    pub fn symbol_name(&self, symbol: SymbolId) -> &Name
+        requires { symbol.0 < length self.now.symbols }
+        ensures { option_map (λ y. y.name) (slice_get self.now.symbols symbol.0) ≡ Some (name_bytes result.now) }
+    {
+        symbol_at(self.symbols.as_slice(), symbol).name()
+    }
+
+    /// All declarations of the symbol, in the order of the text.
+    pub fn symbol_redeclarations(&self, symbol: SymbolId) -> &[Redeclaration]
+        requires { symbol.0 < length self.now.symbols }
+        ensures { option_map (λ y. y.declarations) (slice_get self.now.symbols symbol.0) ≡ Some result.now }
+    {
+        symbol_at(self.symbols.as_slice(), symbol).declarations()
+    }
+
+    /// The references that mean the symbol and were not deleted.
+    pub fn get_resolved_references(&self, symbol: SymbolId) -> &[ReferenceId]
+        requires { symbol.0 < length self.now.symbols }
+        ensures { option_map (λ y. y.references) (slice_get self.now.symbols symbol.0) ≡ Some result.now }
+    {
+        symbol_at(self.symbols.as_slice(), symbol).references()
+    }
+
+    /// The reference.
+    pub fn get_reference(&self, reference: ReferenceId) -> &Reference
+        requires { IsSome (live_at self.now.references reference.0) }
+        ensures { live_at self.now.references reference.0 ≡ Some result.now }
+    {
+        &slot_at(self.references.as_slice(), reference).reference
+    }
+
+    /// What is known of the scope.
+    pub fn scope_flags(&self, scope: ScopeId) -> ScopeFlags
+        requires { scope.0 < length self.now.scopes }
+        ensures { option_map (λ x. x.flags) (slice_get self.now.scopes scope.0) ≡ Some result }
+    {
+        scope_at(self.scopes.as_slice(), scope).flags()
+    }
+
+    /// The scope around the scope; none around the program's.
+    pub fn scope_parent_id(&self, scope: ScopeId) -> Option<ScopeId>
+        requires { scope.0 < length self.now.scopes }
+        ensures parent { option_map (λ x. x.parent) (slice_get self.now.scopes scope.0) ≡ Some result }
+        ensures live { IfSome result (λ parent. parent.0 < length self.now.scopes) }
+    {
+        scope_at(self.scopes.as_slice(), scope).parent()
+    }
+
+    /// Makes a scope in that one.
+    pub fn create_child_scope(
+        &mut self,
+        parent: ScopeId,
+        flags: ScopeFlags,
+    ) -> Result<ScopeId, OutOfMemory>
+        requires { parent.0 < length self.old.scopes }
+        ensures number { IfOk result (λ scope. scope.0 ≡ length self.old.scopes) }
+        ensures made { OnOk result (self.new ≡ with_scope (new_scope (Some parent) flags) self.old) }
+        ensures kept { OnErr result (self.new ≡ self.old) }
+    {
+        let scope = ScopeId(self.scopes.len() as u64);
+        let entry = ScopeEntry::new(self.alloc, Some(parent), flags);
+        self.scopes.push(entry)?;
+        Ok(scope)
+    }
+
+    /// Makes a scope in that one, which the node opens.
+    pub fn open_scope(
+        &mut self,
+        node: NodeId,
+        parent: ScopeId,
+        flags: ScopeFlags,
+    ) -> Result<ScopeId, OutOfMemory>
+        requires { parent.0 < length self.old.scopes }
+        ensures number { IfOk result (λ scope. scope.0 ≡ length self.old.scopes) }
+        ensures made { IfOk result (λ scope. self.new ≡ with_opened_scope node scope (new_scope (Some parent) flags) self.old) }
+        ensures kept { OnErr result (self.new ≡ self.old) }
+    {
+        let scope = ScopeId(self.scopes.len() as u64);
+        let entry = ScopeEntry::new(self.alloc, Some(parent), flags);
+        self.opened.reserve(1)?;
+        self.scopes.push(entry)?;
+        put_reserved(&mut self.opened, node, scope);
+        Ok(scope)
+    }
+
+    /// Makes a symbol that the scope binds the name to and the node declares.
+    #[tactic(auto, using(crate::proofs::Sound::length_changed))]
+    pub fn create_symbol(
+        &mut self,
+        name: &Name,
+        scope: ScopeId,
+        flags: SymbolFlags,
+        node: NodeId,
+    ) -> Result<SymbolId, OutOfMemory>
+        requires { scope.0 < length self.old.scopes }
+        ensures number { IfOk result (λ symbol. symbol.0 ≡ length self.old.symbols) }
+        ensures made { IfOk result (λ symbol. self.new ≡ with_symbol node symbol (new_symbol (name_bytes name.now) scope flags (record { node = node; flags = flags; emits = true })) self.old) }
+        ensures scopes_stay { length self.new.scopes ≡ length self.old.scopes }
+        ensures kept { OnErr result (self.new ≡ self.old) }
+    {
+        let symbol = SymbolId(self.symbols.len() as u64);
+        let declaration = Redeclaration {
+            node,
+            flags,
+            emits: true,
+        };
+        let key = String::from_str(self.alloc, name.as_str())?;
+        let entry = SymbolEntry::declared(self.alloc, name, scope, flags, declaration)?;
+        self.symbols.reserve(1)?;
+        self.declared.reserve(1)?;
+        bind_in(&mut self.scopes, scope, key, symbol)?;
+        push_reserved(&mut self.symbols, entry);
+        put_reserved(&mut self.declared, node, symbol);
+        Ok(symbol)
+    }
+
+    /// Adds a declaration to the symbol, which its node declares from then on.
+    #[tactic(auto, using(crate::proofs::Sound::length_changed))]
+    pub fn declare_again(
+        &mut self,
+        symbol: SymbolId,
+        declaration: Redeclaration,
+    ) -> Result<(), OutOfMemory>
+        requires { symbol.0 < length self.old.symbols }
+        ensures declared { OnOk result (self.new ≡ with_declaration symbol declaration self.old) }
+        ensures symbols_stay { length self.new.symbols ≡ length self.old.symbols }
+        ensures kept { OnErr result (self.new ≡ self.old) }
+    {
+        self.declared.reserve(1)?;
+        declare_in(&mut self.symbols, symbol, declaration)?;
+        put_reserved(&mut self.declared, declaration.node, symbol);
+        Ok(())
+    }
+
+    /// Makes a reference of the node that means the symbol, if there is one.
+    #[tactic(auto, using(crate::proofs::Sound::length_changed))]
+    pub fn create_reference(
+        &mut self,
+        node: NodeId,
+        symbol: Option<SymbolId>,
+        flags: ReferenceFlags,
+    ) -> Result<ReferenceId, OutOfMemory>
+        requires { IfSome symbol (λ meant. meant.0 < length self.old.symbols) }
+        ensures number { IfOk result (λ reference. reference.0 ≡ length self.old.references) }
+        ensures made { IfOk result (λ reference. self.new ≡ with_reference reference (record { node = node; symbol = symbol; flags = flags }) self.old) }
+        ensures symbols_stay { length self.new.symbols ≡ length self.old.symbols }
+        ensures kept { OnErr result (self.new ≡ self.old) }
+    {
+        let reference = ReferenceId(self.references.len() as u64);
+        let slot = Slot {
+            reference: Reference {
+                node,
+                symbol,
+                flags,
+            },
+            is_live: true,
+        };
+        self.references.reserve(1)?;
+        self.named.reserve(1)?;
+        refer_in(&mut self.symbols, symbol, reference)?;
+        push_reserved(&mut self.references, slot);
+        put_reserved(&mut self.named, node, reference);
+        Ok(reference)
+    }
+
+    /// Deletes the reference, which its symbol then has no longer.
+    #[tactic(auto, using(crate::proofs::Sound::length_changed))]
+    pub fn delete_reference(&mut self, reference: ReferenceId)
+        requires { IsSome (live_at self.old.references reference.0) }
+        ensures deleted { self.new ≡ without_reference reference self.old }
+        ensures scopes_stay { length self.new.scopes ≡ length self.old.scopes }
+    {
+        let symbol = delete_in(&mut self.references, reference);
+        forget_in(&mut self.symbols, symbol, reference);
+    }
+
+    /// Binds the name to nothing in the scope.
+    #[tactic(auto, using(crate::proofs::Sound::length_changed))]
+    pub fn remove_binding(&mut self, scope: ScopeId, name: &str)
+        requires { scope.0 < length self.old.scopes }
+        ensures scopes_stay { length self.new.scopes ≡ length self.old.scopes }
+        ensures unbound { self.new ≡ record self.old { scopes = unbound_at scope.0 name.now self.old.scopes } }
+    {
+        unbind_in(&mut self.scopes, scope, name);
+    }
+
+    /// What is known of the symbol, to be changed.
+    pub fn symbol_flags_mut(&mut self, symbol: SymbolId) -> &mut SymbolFlags
+        requires { symbol.0 < length self.old.symbols }
+        ensures* writes_back { sem 𝓛 (LendsSymbolFlags self.entry symbol.0 result) }
+        ensures value { option_map (λ y. y.flags) (slice_get self.old.symbols symbol.0) ≡ Some result.now }
+    {
+        let entry = &mut self.symbols[symbol.0 as usize];
+        entry.flags_mut()
+    }
+
+    /// What is known of the scope, to be changed.
+    pub fn scope_flags_mut(&mut self, scope: ScopeId) -> &mut ScopeFlags
+        requires { scope.0 < length self.old.scopes }
+        ensures* writes_back { sem 𝓛 (LendsScopeFlags self.entry scope.0 result) }
+        ensures value { option_map (λ x. x.flags) (slice_get self.old.scopes scope.0) ≡ Some result.now }
+    {
+        let entry = &mut self.scopes[scope.0 as usize];
+        entry.flags_mut()
+    }
+
+    /// The reference, to be changed. What the symbols are meant by stays as it is, and so does the
+    /// node whose reference it is.
+    pub fn get_reference_mut(&mut self, reference: ReferenceId) -> &mut Reference
+        requires { IsSome (live_at self.old.references reference.0) }
+        ensures* writes_back { sem 𝓛 (LendsReference self.entry reference.0 result) }
+        ensures value { live_at self.old.references reference.0 ≡ Some result.now }
+    {
+        let slot = &mut self.references[reference.0 as usize];
+        &mut slot.reference
+    }
+
+    /// Makes a name of the text that differs from every name of the source and from every name made
+    /// before, and takes it.
+    pub fn generate_uid_name(&mut self, name: &str) -> Result<Name, OutOfMemory>
+        ensures first { IfOk result (λ made. name_bytes made ≡ made_name self.old.taken name.now) }
+        ensures free { IfOk result (λ made. is_among (name_bytes made) self.old.taken ≡ false) }
+        ensures taken { IfOk result (λ made. self.new ≡ record self.old { taken = self.old.taken ++ name_bytes made ∷ [] }) }
+        ensures kept { OnErr result (self.new ≡ self.old) }
+    {
+        self.names.generate_uid_name(name)
+    }
+}

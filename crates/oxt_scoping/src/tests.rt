@@ -1,0 +1,89 @@
+//! Tables that are filled by hand.
+
+use crate::entry::Redeclaration;
+use crate::scoping::Scoping;
+use oxt_symbol::flags::{ReferenceFlags, ScopeFlags, SymbolFlags};
+use oxt_symbol::ids::ScopeId;
+use oxt_tree::ids::NodeId;
+use oxt_tree::name::Name;
+use oxt_uid::uid::UidNames;
+use std::test::Fail;
+
+/// The scope of the function of `{ f(function(a) {}) }`, made by hand.
+#[test]
+fn names_are_bound_in_their_scope(rt: HostRuntime) -> Result<(), Fail> {
+    let alloc = rt.alloc();
+    let mut scoping = Scoping::new(alloc, ScopeFlags::Top, UidNames::new(alloc))?;
+    let name = Name::new(alloc, "a")?;
+    let root = scoping.root_scope_id();
+    let scope = scoping.create_child_scope(root, ScopeFlags::Function)?;
+    let flags = SymbolFlags::FunctionScopedVariable;
+    let symbol = scoping.create_symbol(&name, scope, flags, NodeId(9))?;
+    assert_eq!(rt; scoping.symbol_of(NodeId(9)), Some(symbol));
+    assert_eq!(rt; scoping.get_binding(scope, "a"), Some(symbol));
+    assert_eq!(rt; scoping.find_binding(scope, "f"), None);
+    Ok(())
+}
+
+#[test]
+fn nodes_open_scopes(rt: HostRuntime) -> Result<(), Fail> {
+    let alloc = rt.alloc();
+    let mut scoping = Scoping::new(alloc, ScopeFlags::Top, UidNames::new(alloc))?;
+    let root = scoping.root_scope_id();
+    let scope = scoping.open_scope(NodeId(3), root, ScopeFlags::Arrow)?;
+    assert_eq!(rt; scoping.scope_of(NodeId(3)), Some(scope));
+    assert_eq!(rt; scoping.scope_of(NodeId(4)), None);
+    assert_eq!(rt; scope.0, 1);
+    Ok(())
+}
+
+#[test]
+fn symbols_are_declared_again(rt: HostRuntime) -> Result<(), Fail> {
+    let alloc = rt.alloc();
+    let mut scoping = Scoping::new(alloc, ScopeFlags::Top, UidNames::new(alloc))?;
+    let name = Name::new(alloc, "E")?;
+    let flags = SymbolFlags::Enum;
+    let symbol = scoping.create_symbol(&name, ScopeId(0), flags, NodeId(2))?;
+    if scoping.has_symbol(symbol) {
+        let again = Redeclaration {
+            node: NodeId(7),
+            flags,
+            emits: true,
+        };
+        scoping.declare_again(symbol, again)?;
+    }
+    assert_eq!(rt; scoping.symbol_of(NodeId(7)), Some(symbol));
+    Ok(())
+}
+
+#[test]
+fn a_reference_is_deleted(rt: HostRuntime) -> Result<(), Fail> {
+    let alloc = rt.alloc();
+    let mut scoping = Scoping::new(alloc, ScopeFlags::Top, UidNames::new(alloc))?;
+    let reference = scoping.create_reference(NodeId(4), None, ReferenceFlags::Read)?;
+    assert_eq!(rt; scoping.reference_of(NodeId(4)), Some(reference));
+    assert!(rt; scoping.has_reference(reference));
+    scoping.delete_reference(reference);
+    assert_eq!(rt; scoping.reference_of(NodeId(4)), None);
+    Ok(())
+}
+
+#[test]
+fn flags_change(rt: HostRuntime) -> Result<(), Fail> {
+    let alloc = rt.alloc();
+    let mut scoping = Scoping::new(alloc, ScopeFlags::Top, UidNames::new(alloc))?;
+    let root = scoping.root_scope_id();
+    *scoping.scope_flags_mut(root) = ScopeFlags::StrictMode;
+    assert!(rt; scoping.has_scope(root));
+    assert_eq!(rt; scoping.scope_flags(root), ScopeFlags::StrictMode);
+    Ok(())
+}
+
+#[test]
+fn names_are_made(rt: HostRuntime) -> Result<(), Fail> {
+    let alloc = rt.alloc();
+    let mut scoping = Scoping::new(alloc, ScopeFlags::Top, UidNames::new(alloc))?;
+    assert_eq!(rt; scoping.generate_uid_name("x")?.as_str(), "_x");
+    assert_eq!(rt; scoping.generate_uid_name("x")?.as_str(), "_x2");
+    Ok(())
+}
