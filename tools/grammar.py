@@ -449,8 +449,16 @@ unfoldable pub row_of : Kind → List Field
 {lines}"""
 
 
+def match_on_kind(arms, rest=None):
+    """The body of a function that goes by the kind: the answer for each, and for all others."""
+    lines = [f"        Kind::{kind} => {answer}," for kind, answer in arms]
+    if rest is not None:
+        lines.append(f"        _ => {rest},")
+    return "{\n    match kind {\n" + "\n".join(lines) + "\n    }\n}\n"
+
+
 def unbuilt_source(g):
-    arms = "\n".join(f"        Kind::{k} => {'true' if k in g.unbuilt else 'false'}," for k in g.kinds)
+    arms = [(k, "true" if k in g.unbuilt else "false") for k in g.kinds]
     return f"""// {NOTE}
 ghost use Rattle.std.specs.Prelude.{{◌≡◌}};
 ghost use Rattle.oxt_erase.specs.UnbuiltKinds.{{is_unbuilt_kind}};
@@ -460,12 +468,7 @@ use oxt_table::kind::Kind;
 /// Whether no node of the kind is transformed yet.
 pub fn is_unbuilt(kind: Kind) -> bool
     ensures {{ result ≡ is_unbuilt_kind kind }}
-{{
-    match kind {{
-{arms}
-    }}
-}}
-"""
+{match_on_kind(arms)}"""
 
 
 def unbuilt_spec(g):
@@ -492,7 +495,7 @@ def rule_term(rule, spec):
 
 
 def word_rules_source(g):
-    arms = "\n".join(f"        Kind::{k} => {rule_term(g.rules.get(k, 'Plain'), False)}," for k in g.kinds)
+    arms = [(k, rule_term(g.rules.get(k, "Plain"), False)) for k in g.kinds]
     return f"""// {NOTE}
 ghost use Rattle.std.specs.Prelude.{{◌≡◌}};
 ghost use Rattle.oxt_word.specs.RuleOf.{{rule_of}};
@@ -505,12 +508,7 @@ use oxt_table::kind::Kind;
 #[tactic(auto, unfolding(crate::specs::RuleOf::rule_of))]
 pub fn rule_of(kind: Kind) -> Rule
     ensures {{ result ≡ rule_of kind }}
-{{
-    match kind {{
-{arms}
-    }}
-}}
-"""
+{match_on_kind(arms)}"""
 
 
 def word_rules_spec(g):
@@ -608,7 +606,7 @@ def roles_by_kind(g):
 
 
 def roles_source(g):
-    arms = "\n".join(f"        Kind::{kind} => Role::{role}," for kind, role in roles_by_kind(g))
+    arms = [(kind, f"Role::{role}") for kind, role in roles_by_kind(g)]
     return f"""// {NOTE}
 //! What nodes of a kind are to scopes.
 ghost use Rattle.std.specs.Prelude.{{◌≡◌}};
@@ -621,13 +619,7 @@ use oxt_table::kind::Kind;
 #[tactic(auto, unfolding(crate::specs::RoleOf::role_of))]
 pub fn role_of(kind: Kind) -> Role
     ensures {{ result ≡ role_of kind }}
-{{
-    match kind {{
-{arms}
-        _ => Role::Plain,
-    }}
-}}
-"""
+{match_on_kind(arms, "Role::Plain")}"""
 
 
 def roles_spec(g):
