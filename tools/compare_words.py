@@ -3,12 +3,14 @@
 
     tools/compare_words.py ORACLE LINES OXT [--trim] FILE..      trees, or fixtures with a tree as `input`
     tools/compare_words.py ORACLE LINES OXT --random SEED COUNT  random programs of the generators in ORACLE/tests
+    tools/compare_words.py ORACLE LINES OXT --lowered "FLAGS" ..  what the reading itself lowers trees to
 
 ORACLE is the folder of the reading, a Python package `oxtref` that is no part of this repository. LINES and OXT are
 the built programs `oxt_word_lines` and `oxt`. Each tree that `oxt` lowers is compared twice: its own word, with the
 TypeScript in it, and that of what `oxt` writes. Trees with forms that `oxt` does not build are counted by the form
 and passed over; with `--trim` they are compared without these forms. A form that a random program has is left out of
-the following ones, so that soon all are built.
+the following ones, so that soon all are built. With `--lowered` the reading lowers each tree, of any form, under the
+options of the flags, and the words of these outputs are compared, in which names are made.
 
 Prints a line for each difference, then the counts. The status is 1 if there is a difference, or an answer
 `uncertified`, and else 0.
@@ -36,7 +38,9 @@ def item_line(item):
         row = [mark, kind, *(value for _name, value in parts)]
     elif mark == "Bind":
         kind, exported, name = rest
-        row = [mark, name, kind] + ([exported] if exported else [])
+        row = ["BindMade", name[1], kind, exported] if isinstance(name, tuple) else [mark, name, kind, exported]
+    elif mark == "In" and isinstance(rest[0], tuple):
+        row = ["InMade", rest[0][1], rest[1]]
     elif mark == "Field":
         row = [mark, None, *rest]
     else:
@@ -45,13 +49,21 @@ def item_line(item):
 
 
 class Reading:
-    """The independent reading, at its default options."""
+    """The independent reading, at the options of the flags."""
 
-    def __init__(self, folder):
+    def __init__(self, folder, flags):
         sys.path[:0] = [folder, folder + "/tests"]
         from oxtref import lists, options, tree, word
         self.tree, self.lists, self.word = tree, lists, word
-        self.options, _files = options.parse([])
+        self.options, _files = options.parse(flags)
+
+        self.flags = flags
+
+    def lowered(self, source):
+        """The JSON of what the reading lowers the tree to; none where it refuses it."""
+        from oxtref import oxt
+        status, output, _message = oxt.run(self.flags, source)
+        return output.split(b"\n")[0] if status in (0, 1) else None
 
     def words(self, source, output):
         """The lines of the source's word and of the output's, and the number of the source's nodes."""
@@ -65,7 +77,8 @@ class Reading:
 
 class Comparison:
     def __init__(self, arguments):
-        self.reading = Reading(arguments.oracle)
+        self.is_lowered = arguments.lowered is not None
+        self.reading = Reading(arguments.oracle, (arguments.lowered or "").split())
         self.lines, self.oxt = arguments.lines, arguments.oxt
         self.counts = collections.Counter()
         self.forms = collections.Counter()
@@ -79,6 +92,9 @@ class Comparison:
 
     def tree(self, name, source):
         """Compares one tree. Answers the form for which `oxt` refuses it as not built, if it does."""
+        if self.is_lowered:
+            self.lowered(name, source)
+            return None
         run = subprocess.run([self.oxt], input=source, capture_output=True)
         message = run.stderr.decode().strip()
         if message.startswith("unbuilt "):
@@ -99,14 +115,38 @@ class Comparison:
             return None
         self.counts["trees"] += 1
         self.counts["nodes"] += nodes
-        for which, tree, wanted in (("source", source, expected[0]), ("output", run.stdout, expected[1])):
-            self.word(f"{name} ({which})", tree, wanted)
+        self.word(f"{name} (source)", "tree", source, expected[0])
+        self.word(f"{name} (output)", "pair", pair_of(source, run.stdout), expected[1])
         return None
 
-    def word(self, name, tree, wanted):
-        run = subprocess.run([self.lines], input=tree, capture_output=True)
+    def lowered(self, name, source):
+        """Compares the words of what the reading lowers the tree to."""
+        try:
+            output = self.reading.lowered(source)
+            if output is None:
+                self.counts["refused"] += 1
+                return
+            expected, nodes = self.reading.words(source, output)
+        except (AssertionError, AttributeError, KeyError, RecursionError) as error:
+            self.counts["not read by the oracle"] += 1
+            print(f"{name}: the oracle gave up: {error!r}"[:200])
+            return
+        self.counts["trees"] += 1
+        self.counts["nodes"] += nodes
+        self.counts["items of made names"] += sum("Made" in line or "Keep" in line for line in expected[1])
+        self.word(f"{name} (lowered)", "pair", pair_of(source, output), expected[1])
+
+    def word(self, name, mode, tree, wanted):
+        run = subprocess.run([self.lines, mode], input=tree, capture_output=True)
+        message = run.stderr.decode().strip()
+        if mode == "pair" and message.startswith("Error: invalid JSON"):
+            self.counts["too deep for a pair"] += 1
+            return
+        if mode == "pair" and message == "Error: this is no tree":
+            self.counts["no tree"] += 1
+            return
         if run.returncode != 0:
-            self.show(name, f"status {run.returncode}: {run.stderr.decode().strip()}")
+            self.show(name, f"status {run.returncode}: {message}")
             return
         got = run.stdout.decode().split("\n")[:-1]
         self.counts["items"] += len(wanted)
@@ -116,6 +156,11 @@ class Comparison:
         ours = got[place] if place < len(got) else "the end"
         theirs = wanted[place] if place < len(wanted) else "the end"
         self.show(name, f"item {place}: the program has {ours}, the oracle {theirs}")
+
+
+def pair_of(source, output):
+    """The JSON of a source and its output."""
+    return b'{"source":' + source + b',"output":' + output + b"}"
 
 
 def tree_of_file(path):
@@ -230,6 +275,7 @@ def main():
     parser.add_argument("oxt")
     parser.add_argument("files", nargs="*")
     parser.add_argument("--trim", action="store_true", help="leave out of each tree the forms that are not built")
+    parser.add_argument("--lowered", metavar="FLAGS", help="compare what the reading lowers under these flags")
     parser.add_argument("--random", nargs=2, type=int, metavar=("SEED", "COUNT"))
     arguments = parser.parse_intermixed_args()
     sys.setrecursionlimit(20_000)

@@ -1,3 +1,4 @@
 pub mod Compare
 pub mod Entry
 pub mod Marks
+pub mod Tags

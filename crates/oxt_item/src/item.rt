@@ -6,8 +6,6 @@ use oxt_table::word::Word;
 use oxt_tree::name::Name;
 
 /// What an item stands for.
-///
-/// Made names, exports, and what only they can give, are not there yet: no name is made so far.
 #[derive(Clone, Copy, Debug, PartialEq, Eq)]
 pub enum Mark {
     /// The line for the system at the start of a program.
@@ -32,6 +30,10 @@ pub enum Mark {
     This,
     /// The use of a name.
     Name,
+    /// The use of a made name, by its tag.
+    Made,
+    /// A value that a made name then holds, by its tag.
+    Keep,
     /// The read of an object and a key; spelled by whether it is optional.
     Get,
     /// The write of an object, a key and a value.
@@ -40,16 +42,22 @@ pub enum Mark {
     Eval,
     /// A value that goes into the binding that follows.
     Set,
-    /// A declared name, with what it is declared as.
+    /// A declared name, with what it is declared as and whether it is exported.
     Bind,
+    /// The same of a made name, by its tag.
+    BindMade,
     /// The entry into a called function with that parameter, and the call's pure flag.
     In,
+    /// The same of a parameter whose name is made, by its tag.
+    InMade,
     /// The end of a called function.
     Out,
     /// The name before it, or the empty object.
     Found,
     /// The same, which the name then holds.
     FoundMade,
+    /// The same, stored on an object that stands before it, under the key before it.
+    FoundMadeOn,
     /// A field of a class, with whether it is static and whether it is an accessor.
     Field,
     /// The end of a field.
@@ -58,6 +66,8 @@ pub enum Mark {
     Key,
     /// The start of a constructor's body.
     Body,
+    /// A constructor passes all that it is given on to that of the class above.
+    PassOn,
 }
 
 impl Mark {
@@ -79,19 +89,25 @@ impl Mark {
             Mark::New => "New",
             Mark::This => "This",
             Mark::Name => "Name",
+            Mark::Made => "Made",
+            Mark::Keep => "Keep",
             Mark::Get => "Get",
             Mark::Put => "Put",
             Mark::Eval => "Eval",
             Mark::Set => "Set",
             Mark::Bind => "Bind",
+            Mark::BindMade => "BindMade",
             Mark::In => "In",
+            Mark::InMade => "InMade",
             Mark::Out => "Out",
             Mark::Found => "Found",
             Mark::FoundMade => "FoundMade",
+            Mark::FoundMadeOn => "FoundMadeOn",
             Mark::Field => "Field",
             Mark::Define => "Define",
             Mark::Key => "Key",
             Mark::Body => "Body",
+            Mark::PassOn => "PassOn",
         }
     }
 }
@@ -106,6 +122,7 @@ pub enum Binding {
     AwaitUsing,
     Function,
     Class,
+    Import,
     Parameter,
     Catch,
     /// The name of a function expression or a class expression.
@@ -127,6 +144,7 @@ impl Binding {
             Binding::AwaitUsing => "await using",
             Binding::Function => "function",
             Binding::Class => "class",
+            Binding::Import => "import",
             Binding::Parameter => "parameter",
             Binding::Catch => "catch",
             Binding::Inner => "inner",

@@ -3,5 +3,6 @@
 
 pub mod compare;
 pub mod item;
+pub mod tags;
 #[cfg(test)]
 mod tests;

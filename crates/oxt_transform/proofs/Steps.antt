@@ -12,13 +12,14 @@ use Rattle.oxt_transform.specs.Outcomes.{IfRefused, IsDoneOrMemory, IsRefusedMem
 use Rattle.oxt_transform.specs.Settings.{is_script, wrong_setting}
 use Rattle.oxt_transform.specs.declared.program.Outcome.{Outcome}
 use Rattle.oxt_transform.specs.declared.program.Outcome.TheVariants.{Done, Refused, Usage, ReadFault, WriteFault, Memory, TooLong}
-use Rattle.oxt_transform.specs.Refusals.{Difference, misfit_at, typescript_at, setting_at, item_at, Refusal, json, shape, unbuilt_form, uncertified, Judges, HasUnbuilt, IsTested, Refuses, Accepts}
+use Rattle.oxt_transform.specs.Refusals.{Difference, misfit_at, typescript_at, setting_at, item_at, Refusal, json, shape, unbuilt_form, uncertified, Judges, names_of, HasUnbuilt, IsTested, Refuses, Accepts}
 use Rattle.oxt_tree.specs.Doc.{Doc}
 use Rattle.oxt_tree.specs.declared.name.Name.{Name}
 use Rattle.oxt_valid.proofs.Decisions.{no_tree, not_plain}
 use Rattle.oxt_valid.specs.Plain.{is_plain}
 use Rattle.oxt_valid.specs.Valid.{is_tree}
 use Rattle.oxt_item.specs.Entry.{Entry}
+use Rattle.oxt_forms.specs.Facts.{of_source}
 use Rattle.oxt_word.specs.Word.{word}
 
 same_source : (bytes : List ℕ) (a b : Doc) (m n : ℕ) → reading bytes ≡ tree a m → reading bytes ≡ tree b n → a ≡ b
@@ -34,11 +35,11 @@ true_and_false b p q = false≢true (sym q ∙ p)
 no_setting_and_one : (o : Option (List ℕ)) (place : List ℕ) → o ≡ Some place → o ≡ None → ⊥
 no_setting_and_one o place p q = cc
 
-never_two : (d : Difference) (before : List Entry) (was_script : Bool) (output : Doc) → Judges before was_script output (Some d) → Judges before was_script output None → ⊥
-never_two (misfit_at place) before was_script output h k = true_and_false (is_tree output) k.0 (no_tree output place h)
-never_two (typescript_at place) before was_script output h k = true_and_false (is_plain output) k.1 (not_plain output place h.1)
-never_two (setting_at place) before was_script output h k = no_setting_and_one (wrong_setting was_script output) place h.2 k.2
-never_two (item_at i) before was_script output h k = h.3.1 (ap (λ (w : List Entry). slice_get w i) k.3)
+never_two : (d : Difference) (before : List Entry) (names : List (List ℕ)) (was_script : Bool) (output : Doc) → Judges before names was_script output (Some d) → Judges before names was_script output None → ⊥
+never_two (misfit_at place) before names was_script output h k = true_and_false (is_tree output) k.0 (no_tree output place h)
+never_two (typescript_at place) before names was_script output h k = true_and_false (is_plain output) k.1 (not_plain output place h.1)
+never_two (setting_at place) before names was_script output h k = no_setting_and_one (wrong_setting was_script output) place h.2 k.2
+never_two (item_at i) before names was_script output h k = h.3.1 (ap (λ (w : List Entry). slice_get w i) k.3)
 
 nothing_read : (bytes : List ℕ) (a : Doc) (m : ℕ) → reading bytes ≡ tree a m → reading bytes ≡ no_value → ⊥
 nothing_read bytes a m p q = let e : tree a m ≡ no_value = sym p ∙ q in cc
@@ -55,7 +56,7 @@ never_both (unbuilt_form kind) bytes h k =
     no_form_and_one (unbuilt k.source) kind (sym (ap unbuilt same) ∙ h.form) k.built
 never_both (uncertified d) bytes h k =
     let same = same_source bytes h.source k.source h.next k.next h.spelled k.spelled in
-    never_two d (word k.source) (is_script k.source) (erased k.source) (subst (λ (s : Doc). Judges (word s) (is_script s) (erased s) (Some d)) same h.judged) k.judged
+    never_two d (word of_source k.source) (names_of k.source) (is_script k.source) (erased k.source) (subst (λ (s : Doc). Judges (word of_source s) (names_of s) (is_script s) (erased s) (Some d)) same h.judged) k.judged
 
 same_bytes : (left left' : Option (List ℕ)) (bytes held : List ℕ) → GaveAll left left' bytes → left ≡ Some held → bytes ≡ held
 same_bytes None left' bytes held all e = cc

@@ -1,22 +1,13 @@
 -- What a fault says of the bytes.
+pub use Rattle.oxt_check.specs.Faults.{refusal_in}
 use Rattle.std.specs.Prelude.{◌≡◌, ℕ, List, Option, None, Some, ⊤}
 use Rattle.oxt_json.specs.declared.read.ReadFault.{ReadFault}
 use Rattle.oxt_json.specs.declared.read.ReadFault.TheVariants as read_fault
-use Rattle.oxt_transform.specs.Refusals.{Refusal, json, shape, unbuilt_form, uncertified, difference_in, Refuses}
-use Rattle.oxt_transform.specs.declared.fault.Fault.{Fault}
-use Rattle.oxt_transform.specs.declared.fault.Fault.TheVariants as fault
+use Rattle.oxt_transform.specs.Refusals.{Refusal, json, shape, Refuses}
 use Rattle.oxt_transform.specs.declared.transform.TransformerReturn.{TransformerReturn}
 use Rattle.oxt_tree.specs.Names.{name_bytes}
 
--- the refusal that a fault is; none for want of memory
-abbrev pub refusal_in : Fault → Option Refusal
-refusal_in fault.OutOfMemory = None
-refusal_in fault.Json = Some json
-refusal_in (fault.Shape place) = Some (shape (name_bytes place))
-refusal_in (fault.Unbuilt kind) = Some (unbuilt_form (name_bytes kind))
-refusal_in (fault.Uncertified mismatch) = Some (uncertified (difference_in mismatch))
-
--- the same for a fault of reading
+-- the refusal that a fault of reading is; none for want of memory
 abbrev pub read_refusal : ReadFault → Option Refusal
 read_refusal read_fault.OutOfMemory = None
 read_refusal read_fault.Json = Some json

@@ -7,6 +7,8 @@ use Rattle.oxt_tree.specs.Doc.{Doc}
 use Rattle.oxt_valid.specs.Plain.{is_plain}
 use Rattle.oxt_valid.specs.Valid.{is_tree}
 use Rattle.oxt_transform.specs.Settings.{is_script, wrong_setting}
+use Rattle.oxt_forms.specs.Facts.{of_output, of_source}
+use Rattle.oxt_transform.specs.Refusals.{names_of}
 use Rattle.oxt_word.specs.Word.{word}
 
 -- The bytes spell a source tree, and the text is that of a valid and plain tree of JavaScript that has the source's
@@ -20,5 +22,5 @@ pub record Lowers (bytes text : List ℕ) : Type 0 where
   pub valid : is_tree output ≡ true
   pub plain : is_plain output ≡ true
   pub settings : wrong_setting (is_script source) output ≡ None
-  pub same_word : word output ≡ word source
+  pub same_word : word (of_output (names_of source) output) output ≡ word of_source source
   pub written : text ≡ text_of output

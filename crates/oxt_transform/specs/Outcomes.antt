@@ -7,7 +7,7 @@ use Rattle.oxt_transform.specs.Lowering.{Lowers}
 use Rattle.oxt_transform.specs.Refusals.{Refusal, Refuses, Accepts, line_of}
 use Rattle.oxt_io.specs.declared.outcome.InputFault.{InputFault}
 use Rattle.oxt_io.specs.declared.outcome.InputFault.TheVariants as input
-use Rattle.oxt_transform.specs.declared.fault.Fault.{Fault}
+use Rattle.oxt_check.specs.declared.fault.Fault.{Fault}
 use Rattle.oxt_transform.specs.declared.program.Outcome.{Outcome}
 use Rattle.oxt_tree.specs.declared.name.Name.{Name}
 use Rattle.oxt_transform.specs.declared.program.Outcome.TheVariants.{Done, Refused, Usage, ReadFault, WriteFault, Memory, TooLong}

@@ -6,38 +6,30 @@ ghost use Rattle.oxt_transform.specs.Refusals.{Judges, difference_in};
 ghost use Rattle.oxt_tree.specs.View.{node_doc};
 ghost use Rattle.oxt_item.specs.Entry.{entries};
 
+pub use oxt_check::fault::Mismatch;
+use oxt_forms::facts::Facts;
 use oxt_item::compare::first_difference;
 use oxt_item::item::Item;
 use oxt_tree::ids::OutOfMemory;
 use oxt_tree::name::Name;
 use oxt_tree::tree::Node;
+use oxt_uid::uid::UidNames;
 use oxt_valid::misfit::first_misfit;
 use oxt_valid::remains::first_typescript;
 use oxt_word::word::word_of;
 use std::alloc::Global;
 
-/// How a lowered tree fails its certificate.
-#[derive(Debug, Drop)]
-pub enum Mismatch {
-    /// It is no tree of the grammar, at this JSON pointer first.
-    Shape { place: Name },
-    /// Something of TypeScript is left in it, at this JSON pointer first.
-    Plain { place: Name },
-    /// A setting of the program, at this JSON pointer, is not the source's, or names another language.
-    Setting { place: Name },
-    /// Its effect word differs from the source's, at this index first.
-    Item { index: usize },
-}
-
 /// How the tree fails to be of the grammar, plain, a script exactly where the source was one, of
-/// JavaScript, and of the effect word `before`, in this order; none where it does not fail.
+/// JavaScript, and of the effect word `before`, in this order; none where it does not fail. `names` are
+/// those of the source.
 pub fn find_mismatch(
     alloc: Global,
     before: &[Item],
+    names: &UidNames,
     was_script: bool,
     output: &Node,
 ) -> Result<Option<Mismatch>, OutOfMemory>
-    ensures { IfOk result (λ mismatch. Judges (entries before.now) was_script (node_doc output.now)
+    ensures { IfOk result (λ mismatch. Judges (entries before.now) names.now was_script (node_doc output.now)
         (option_map difference_in mismatch)) }
 {
     if let Some(place) = first_misfit(alloc, output)? {
@@ -49,7 +41,8 @@ pub fn find_mismatch(
     if let Some(place) = wrong_setting(alloc, was_script, output)? {
         return Ok(Some(Mismatch::Setting { place }));
     }
-    let after = word_of(alloc, output)?;
+    let facts = Facts::of_output(alloc, names, output)?;
+    let after = word_of(&facts, output)?;
     match first_difference(before, after.as_slice()) {
         Some(index) => Ok(Some(Mismatch::Item { index })),
         None => Ok(None),

@@ -1,43 +1,9 @@
 //! Why bytes are refused.
-ghost use Rattle.std.specs.Prelude.{◌≡◌, Some, None, IfOk, ◌++◌, codes, option_map, string_bytes};
+ghost use Rattle.std.specs.Prelude.{◌≡◌};
 ghost use Rattle.oxt_transform.specs.Faults.{refusal_in, read_refusal};
-ghost use Rattle.oxt_transform.specs.Refusals.{difference_in, line_of, uncertified};
-ghost use Rattle.oxt_transform.specs.declared.fault.Fault.TheVariants.{OutOfMemory as NoMemory};
 
-use crate::certificate::Mismatch;
+pub use oxt_check::fault::Fault;
 use oxt_json::ReadFault;
-use oxt_tree::ids::OutOfMemory;
-use oxt_tree::name::Name;
-use std::alloc::{AllocError, Global};
-use thiserror::Error;
-
-/// Why `transform_text` gave no tree.
-#[derive(Debug, Drop, Error)]
-pub enum Fault {
-    /// Memory ran out.
-    #[error("out of memory")]
-    OutOfMemory,
-    /// The bytes are no JSON, or nest too deeply.
-    #[error("not JSON")]
-    Json,
-    /// The JSON is no tree: `place` is the pointer of the first wrong value.
-    #[error("no tree at {place:?}", place = .place.as_str())]
-    Shape { place: Name },
-    /// The tree has a form that is not built yet: `kind` names the first.
-    #[error("not built yet: {kind:?}", kind = .kind.as_str())]
-    Unbuilt { kind: Name },
-    /// The lowered tree failed its certificate, and was thrown away.
-    #[error("the lowered tree is not certified")]
-    Uncertified { mismatch: Mismatch },
-}
-
-impl From<OutOfMemory> for Fault {
-    ghost from_gives = { λ _ f. f ≡ NoMemory };
-
-    fn from(_error: OutOfMemory) -> Fault {
-        Fault::OutOfMemory
-    }
-}
 
 /// A fault of reading, as one of the whole work.
 pub(crate) fn fault_of_reading(fault: ReadFault) -> Fault
@@ -47,44 +13,5 @@ pub(crate) fn fault_of_reading(fault: ReadFault) -> Fault
         ReadFault::OutOfMemory => Fault::OutOfMemory,
         ReadFault::Json => Fault::Json,
         ReadFault::Shape { place } => Fault::Shape { place },
-    }
-}
-
-impl Fault {
-    /// The line that names the fault on standard error; for want of memory there is none.
-    pub fn line(&self, alloc: Global) -> Result<Option<String>, AllocError>
-        ensures { IfOk result
-            (λ line. option_map string_bytes line ≡ option_map line_of (refusal_in self.now)) }
-    {
-        match self {
-            Fault::OutOfMemory => Ok(None),
-            Fault::Json => Ok(Some(String::from_str(alloc, "json\n")?)),
-            Fault::Shape { place } => Ok(Some(named_line(alloc, "shape ", place.as_str())?)),
-            Fault::Unbuilt { kind } => Ok(Some(named_line(alloc, "unbuilt ", kind.as_str())?)),
-            Fault::Uncertified { mismatch } => Ok(Some(uncertified_line(alloc, mismatch)?)),
-        }
-    }
-}
-
-// What is wrong, where, and a line feed.
-fn named_line(alloc: Global, what: &str, name: &str) -> Result<String, AllocError>
-    ensures { IfOk result (λ line. string_bytes line ≡ what.now ++ name.now ++ codes "\n") }
-{
-    let mut line = String::from_str(alloc, what)?;
-    line.push_str(name)?;
-    line.push_str("\n")?;
-    Ok(line)
-}
-
-// How the lowered tree fails its certificate, and a line feed.
-fn uncertified_line(alloc: Global, mismatch: &Mismatch) -> Result<String, AllocError>
-    ensures { IfOk result
-        (λ line. string_bytes line ≡ line_of (uncertified (difference_in mismatch.now))) }
-{
-    match mismatch {
-        Mismatch::Shape { place } => named_line(alloc, "uncertified shape ", place.as_str()),
-        Mismatch::Plain { place } => named_line(alloc, "uncertified plain ", place.as_str()),
-        Mismatch::Setting { place } => named_line(alloc, "uncertified setting ", place.as_str()),
-        Mismatch::Item { index } => format!(in alloc; "uncertified item {index}\n"),
     }
 }

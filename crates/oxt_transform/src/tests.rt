@@ -1,6 +1,8 @@
 use super::*;
 use crate::certificate::find_mismatch;
+use oxt_forms::facts::Facts;
 use oxt_json::read_tree;
+use oxt_uid::uid::UidNames;
 use oxt_word::word::word_of;
 use std::test::Fail;
 
@@ -55,9 +57,10 @@ fn a_setting_is_certified(rt: HostRuntime) -> Result<(), Fail> {
         Ok(program) => program,
         Err(_) => return Err("no tree".into()),
     };
-    let word = word_of(alloc, &program.root)?;
+    let names = UidNames::of_tree(alloc, &program.root)?;
+    let word = word_of(&Facts::of_source(alloc), &program.root)?;
     for (was_script, place) in [(false, "/lang"), (true, "/sourceType")] {
-        let mismatch = find_mismatch(alloc, word.as_slice(), was_script, &program.root)?;
+        let mismatch = find_mismatch(alloc, word.as_slice(), &names, was_script, &program.root)?;
         match mismatch {
             Some(Mismatch::Setting { place: found }) => assert_eq!(rt; found.as_str(), place),
             _ => return Err("no setting".into()),

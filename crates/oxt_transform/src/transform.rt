@@ -8,22 +8,13 @@ use crate::certificate::{find_mismatch, is_script};
 use crate::fault::{Fault, fault_of_reading};
 use oxt_erase::erase::erase_program;
 use oxt_erase::unbuilt::first_unbuilt;
+use oxt_forms::facts::Facts;
 use oxt_json::read_tree;
 use oxt_json_write::write_tree;
-use oxt_tree::ids::OutOfMemory;
+pub use oxt_options::TransformOptions;
+use oxt_uid::uid::UidNames;
 use oxt_word::word::word_of;
 use std::alloc::Global;
-
-/// What changes the lowering. No option stands yet.
-#[derive(Clone, Copy, Debug)]
-pub struct TransformOptions {}
-
-impl TransformOptions {
-    /// The options of a run without flags.
-    pub fn defaults(_alloc: Global) -> Result<TransformOptions, OutOfMemory> {
-        Ok(TransformOptions {})
-    }
-}
 
 /// The plain tree that came out.
 #[derive(Drop)]
@@ -49,6 +40,8 @@ impl TransformerReturn {
 
 /// Lowers the tree that the bytes spell to plain JavaScript.
 ///
+/// No field of the options acts yet: every tree is lowered as under the defaults.
+///
 /// # Errors
 ///
 /// The first reason in the order of `Fault`'s variants after want of memory, which may come at any step.
@@ -68,10 +61,12 @@ pub fn transform_text(
     if let Some(kind) = first_unbuilt(alloc, &program.root)? {
         return Err(Fault::Unbuilt { kind });
     }
-    let before = word_of(alloc, &program.root)?;
+    let names = UidNames::of_tree(alloc, &program.root)?;
+    let before = word_of(&Facts::of_source(alloc), &program.root)?;
     let was_script = is_script(&program.root);
     erase_program(alloc, &mut program);
-    if let Some(mismatch) = find_mismatch(alloc, before.as_slice(), was_script, &program.root)? {
+    let mismatch = find_mismatch(alloc, before.as_slice(), &names, was_script, &program.root)?;
+    if let Some(mismatch) = mismatch {
         return Err(Fault::Uncertified { mismatch });
     }
     let bytes = write_tree(alloc, &program)?;

@@ -1,3 +1,4 @@
 pub mod Appends
 pub mod Details
+pub mod Drops
 pub mod Loops

@@ -1,4 +1,4 @@
-pub mod Forms
+pub mod Erased
 pub mod Node
 pub mod RuleOf
 pub mod Ways

@@ -4,10 +4,12 @@ use Rattle.oxt_table.specs.declared.kind.Kind.{Kind}
 use Rattle.oxt_tree.specs.Fields.{first}
 use Rattle.oxt_tree.specs.Doc.{Docs, flag, nil, text}
 use Rattle.oxt_tree.specs.Fields.{named, is_set, is_text}
-use Rattle.oxt_item.specs.Entry.{Entry, binding_text, detail, detailed, lone, spelled}
-use Rattle.oxt_word.specs.Forms.{is_long, is_quiet}
+use Rattle.oxt_item.specs.Entry.{Entry, detail, detailed, lone, spelled}
+use Rattle.oxt_forms.specs.Facts.{Known, is_made}
+use Rattle.oxt_forms.specs.Forms.{is_long}
+use Rattle.oxt_forms.specs.Made.{is_passing, is_quiet, passes_on}
 use Rattle.oxt_word.specs.Node.{start, opened, OneField, AllFields}
-use Rattle.oxt_word.specs.Whole.{number_word, declarator_word, whole_word}
+use Rattle.oxt_word.specs.Whole.{bind_word, class_word, declarator_word, function_word, number_word, variables_word, whole_word}
 use Rattle.oxt_item.specs.declared.item.Binding.{Binding}
 use Rattle.oxt_item.specs.declared.item.Mark.TheVariants as mark
 use Rattle.oxt_word.specs.declared.rule.Rule.{Rule}
@@ -15,50 +17,71 @@ use Rattle.oxt_word.specs.declared.rule.Rule.TheVariants as rule
 use Rattle.oxt_word.specs.declared.way.Way.TheVariants as way
 
 -- A member that is written is its object and its key.
-abbrev pub target_word : Rule → Kind → Docs → OneField → AllFields → List Entry
-target_word rule.Transparent k ds c f = c (codes "expression") way.Target
-target_word rule.StaticMember k ds c f =
+abbrev pub target_word : Known → Rule → Kind → Docs → OneField → AllFields → List Entry
+target_word f rule.Transparent k ds c fs = c (codes "expression") way.Target
+target_word f rule.StaticMember k ds c fs =
     c (codes "object") way.Whole ++ c (codes "property") way.KeyText
-target_word rule.ComputedMember k ds c f =
+target_word f rule.ComputedMember k ds c fs =
     c (codes "object") way.Whole ++ c (codes "expression") way.Whole
-target_word rule.PrivateMember k ds c f =
+target_word f rule.PrivateMember k ds c fs =
     c (codes "object") way.Whole ++ c (codes "field") way.Whole
-target_word r k ds c f = whole_word r k ds c f
+target_word f r k ds c fs = whole_word f r k ds c fs
 
 -- Patterns and declarators bind their names.
-abbrev pub bound_word : Binding → Rule → Kind → Docs → OneField → AllFields → List Entry
-bound_word b rule.Identifier k ds c f =
-    detailed mark.Bind (detail (first ds)) (text (binding_text b) ∷ [])
-bound_word b rule.Pattern k ds c f = opened k ds (f (way.Bound b))
-bound_word b rule.Declarator k ds c f = declarator_word b k ds c
-bound_word b r k ds c f = whole_word r k ds c f
+abbrev pub bound_word : Known → Binding → Bool → Rule → Kind → Docs → OneField → AllFields → List Entry
+bound_word f b x rule.Identifier k ds c fs =
+    bind_word f b x ds
+bound_word f b x rule.Pattern k ds c fs = opened k ds (fs (way.Bound b x))
+bound_word f b x rule.Declarator k ds c fs = declarator_word f b x k ds c
+bound_word f b x r k ds c fs = whole_word f r k ds c fs
+
+-- What is declared by an export is exported.
+abbrev pub exported_word : Known → Rule → Kind → Docs → OneField → AllFields → List Entry
+exported_word f rule.Variables k ds c fs = variables_word true k ds c fs
+exported_word f rule.FunctionDeclaration k ds c fs = function_word true k ds c
+exported_word f rule.ClassDeclaration k ds c fs = class_word true k ds c
+exported_word f r k ds c fs = whole_word f r k ds c fs
+
+-- the entry into a called function, whose parameter may have a made name
+abbrev pub in_word : Known → Bool → Docs → List Entry
+in_word f p ds =
+    detailed (if is_made f (first ds) then mark.InMade else mark.In) (detail (first ds)) (flag p ∷ [])
 
 -- A function that is called where it stands is the entry with its parameter, its body and its end.
-abbrev pub entered_word : Bool → Rule → Kind → Docs → OneField → AllFields → List Entry
-entered_word p rule.Transparent k ds c f = c (codes "expression") (way.Entered p)
-entered_word p rule.FunctionExpression k ds c f =
+abbrev pub entered_word : Known → Bool → Rule → Kind → Docs → OneField → AllFields → List Entry
+entered_word f p rule.Transparent k ds c fs = c (codes "expression") (way.Entered p)
+entered_word f p rule.FunctionExpression k ds c fs =
     c (codes "params") (way.Entered p) ++ (c (codes "body") way.Whole ++ lone mark.Out)
-entered_word p rule.Parameters k ds c f = c (codes "items") (way.Entered p)
-entered_word p rule.Parameter k ds c f = c (codes "pattern") (way.Entered p)
-entered_word p rule.Identifier k ds c f = detailed mark.In (detail (first ds)) (flag p ∷ [])
-entered_word p r k ds c f = whole_word r k ds c f
+entered_word f p rule.Parameters k ds c fs = c (codes "items") (way.Entered p)
+entered_word f p rule.Parameter k ds c fs = c (codes "pattern") (way.Entered p)
+entered_word f p rule.Identifier k ds c fs = in_word f p ds
+entered_word f p r k ds c fs = whole_word f r k ds c fs
 
--- The function of a constructor is its parameters and its body.
-abbrev pub opened_word : Rule → Kind → Docs → OneField → AllFields → List Entry
-opened_word rule.FunctionExpression k ds c f =
-    c (codes "params") way.Whole ++ (lone mark.Body ++ c (codes "body") way.Whole)
-opened_word r k ds c f = whole_word r k ds c f
+-- The function of a constructor is its parameters and its body. One that passes on what it is given has
+-- no parameters.
+abbrev pub opened_word : Known → Rule → Kind → Docs → OneField → AllFields → List Entry
+opened_word f rule.FunctionExpression k ds c fs =
+    if passes_on f k ds then lone mark.Nil ++ (lone mark.Body ++ c (codes "body") way.PassOn)
+    else c (codes "params") way.Whole ++ (lone mark.Body ++ c (codes "body") way.Whole)
+opened_word f r k ds c fs = whole_word f r k ds c fs
+
+-- In the body of such a constructor the call that passes it on is so read.
+abbrev pub passed_word : Known → Rule → Kind → Docs → OneField → AllFields → List Entry
+passed_word f rule.Bare k ds c fs = fs way.PassOn
+passed_word f rule.Statement k ds c fs =
+    if is_passing f k ds then lone mark.PassOn else whole_word f rule.Statement k ds c fs
+passed_word f r k ds c fs = whole_word f r k ds c fs
 
 -- A key that is a name, a text or a number computes nothing; in a sequence the last is the key.
-abbrev pub keyed_word : Rule → Kind → Docs → OneField → AllFields → List Entry
-keyed_word rule.Transparent k ds c f = c (codes "expression") way.Keyed
-keyed_word rule.Sequence k ds c f =
+abbrev pub keyed_word : Known → Rule → Kind → Docs → OneField → AllFields → List Entry
+keyed_word f rule.Transparent k ds c fs = c (codes "expression") way.Keyed
+keyed_word f rule.Sequence k ds c fs =
     if is_long k ds then c (codes "expressions") way.InTurnKeyed
-    else whole_word rule.Sequence k ds c f ++ lone mark.Key
-keyed_word rule.PropertyName k ds c f = []
-keyed_word (rule.Literal m) k ds c f = []
-keyed_word rule.Number k ds c f = []
-keyed_word r k ds c f = whole_word r k ds c f ++ lone mark.Key
+    else whole_word f rule.Sequence k ds c fs ++ lone mark.Key
+keyed_word f rule.PropertyName k ds c fs = []
+keyed_word f (rule.Literal m) k ds c fs = []
+keyed_word f rule.Number k ds c fs = []
+keyed_word f r k ds c fs = whole_word f r k ds c fs ++ lone mark.Key
 
 -- Such a key is its own text; another key has none.
 abbrev pub key_text : Rule → Kind → Docs → OneField → List Entry
@@ -83,24 +106,24 @@ field_word is_static is_accessor c =
     ++ (c (codes "key") way.KeyText ++ (c (codes "value") way.Whole ++ lone mark.Define))
 
 -- A static block of expressions alone is what they do; another one is a node.
-abbrev pub block_word : Kind → Docs → OneField → AllFields → List Entry
-block_word k ds c f =
-    if is_quiet k ds then c (codes "body") way.Whole else opened k ds (f way.Whole)
+abbrev pub block_word : Known → Kind → Docs → OneField → AllFields → List Entry
+block_word f k ds c fs =
+    if is_quiet f k ds then c (codes "body") way.Whole else opened k ds (fs way.Whole)
 
 -- the static fields, accessors and blocks of a class
-abbrev pub statics_word : Rule → Kind → Docs → OneField → AllFields → List Entry
-statics_word rule.Bare k ds c f = f way.Statics
-statics_word (rule.ClassField a) k ds c f =
+abbrev pub statics_word : Known → Rule → Kind → Docs → OneField → AllFields → List Entry
+statics_word f rule.Bare k ds c fs = fs way.Statics
+statics_word f (rule.ClassField a) k ds c fs =
     if is_set (named (codes "static") k ds) then field_word true a c else []
-statics_word rule.StaticBlock k ds c f = block_word k ds c f
-statics_word r k ds c f = []
+statics_word f rule.StaticBlock k ds c fs = block_word f k ds c fs
+statics_word f r k ds c fs = []
 
 -- the fields and accessors of its instances
-abbrev pub fields_word : Rule → Kind → Docs → OneField → AllFields → List Entry
-fields_word rule.Bare k ds c f = f way.Fields
-fields_word (rule.ClassField a) k ds c f =
+abbrev pub fields_word : Known → Rule → Kind → Docs → OneField → AllFields → List Entry
+fields_word f rule.Bare k ds c fs = fs way.Fields
+fields_word f (rule.ClassField a) k ds c fs =
     if is_set (named (codes "static") k ds) then [] else field_word false a c
-fields_word r k ds c f = []
+fields_word f r k ds c fs = []
 
 -- a constructor, by the word of its node
 abbrev pub is_constructor : Kind → Docs → Bool
@@ -113,17 +136,17 @@ method_word k ds c =
     ++ (c (codes "key") way.KeyText ++ (c (codes "value") way.Whole ++ lone mark.Close))
 
 -- the methods of a class
-abbrev pub methods_word : Rule → Kind → Docs → OneField → AllFields → List Entry
-methods_word rule.Bare k ds c f = f way.Methods
-methods_word rule.Method k ds c f = if is_constructor k ds then [] else method_word k ds c
-methods_word r k ds c f = []
+abbrev pub methods_word : Known → Rule → Kind → Docs → OneField → AllFields → List Entry
+methods_word f rule.Bare k ds c fs = fs way.Methods
+methods_word f rule.Method k ds c fs = if is_constructor k ds then [] else method_word k ds c
+methods_word f r k ds c fs = []
 
 -- A constructor is its start, its parameters and body, and its end.
-abbrev pub constructor_word : Rule → Kind → Docs → OneField → AllFields → List Entry
-constructor_word rule.Bare k ds c f = f way.Constructor
-constructor_word rule.Method k ds c f =
+abbrev pub constructor_word : Known → Rule → Kind → Docs → OneField → AllFields → List Entry
+constructor_word f rule.Bare k ds c fs = fs way.Constructor
+constructor_word f rule.Method k ds c fs =
     if is_constructor k ds
     then start k (detail (named (codes "kind") k ds) ∷ [])
     ++ (c (codes "value") way.Opened ++ lone mark.Close)
     else []
-constructor_word r k ds c f = []
+constructor_word f r k ds c fs = []

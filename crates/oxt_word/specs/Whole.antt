@@ -1,20 +1,50 @@
 -- What a node does, by the rule of its kind.
-use Rattle.std.specs.Prelude.{ℕ, List, [], ◌++◌, if◌then◌else◌, codes}
+use Rattle.std.specs.Prelude.{ℕ, List, [], ◌∷◌, ◌++◌, Bool, true, false, ◌&&◌, if◌then◌else◌, codes}
 use Rattle.oxt_table.specs.declared.kind.Kind.{Kind}
 use Rattle.oxt_table.specs.declared.kind.Kind.TheVariants as kind
 use Rattle.oxt_tree.specs.Fields.{first}
-use Rattle.oxt_tree.specs.Doc.{Doc, Docs, flag}
-use Rattle.oxt_tree.specs.Fields.{named, is_nil, is_set, is_kind, is_empty_list}
-use Rattle.oxt_item.specs.Entry.{Entry, lone, spelled, detail}
-use Rattle.oxt_word.specs.Forms.{is_put, is_long, is_found, is_found_made, is_called, binding_of}
+use Rattle.oxt_tree.specs.Doc.{Doc, Docs, flag, text}
+use Rattle.oxt_tree.specs.Fields.{named, field_of, is_nil, is_set, is_text, is_kind, is_empty_list}
+use Rattle.oxt_item.specs.Entry.{Entry, binding_text, detail, detailed, lone, spelled}
+use Rattle.oxt_forms.specs.Facts.{Known, is_made}
+use Rattle.oxt_forms.specs.Forms.{within, is_put, is_long, is_found, is_found_made, is_called, binding_of}
+use Rattle.oxt_forms.specs.Made.{base_in, base_key, base_name, is_found_made_on, is_keep, is_silent}
 use Rattle.oxt_word.specs.Node.{start, opened, OneField, AllFields}
 use Rattle.oxt_item.specs.declared.item.Binding.{Binding}
+use Rattle.oxt_item.specs.declared.item.Mark.{Mark}
 use Rattle.oxt_item.specs.declared.item.Binding.TheVariants as binding
 use Rattle.oxt_item.specs.declared.item.Mark.TheVariants as mark
 use Rattle.oxt_word.specs.declared.rule.Rule.{Rule}
 use Rattle.oxt_word.specs.declared.rule.Rule.TheVariants as rule
 use Rattle.oxt_word.specs.declared.way.Way.{Way}
 use Rattle.oxt_word.specs.declared.way.Way.TheVariants as way
+
+-- the use of a name, which may be made
+abbrev pub name_word : Known → Docs → List Entry
+name_word f ds =
+    if is_made f (first ds) then spelled mark.Made (detail (first ds))
+    else spelled mark.Name (detail (first ds))
+
+-- a declared name, which may be made
+abbrev pub bind_word : Known → Binding → Bool → Docs → List Entry
+bind_word f b x ds =
+    detailed (if is_made f (first ds) then mark.BindMade else mark.Bind) (detail (first ds))
+    (text (binding_text b) ∷ flag x ∷ [])
+
+-- The mark of a value that a made name holds.
+abbrev pub is_kept_mark : Mark → Bool
+is_kept_mark mark.Keep = true
+is_kept_mark m = false
+
+-- A value that a made name holds comes last.
+abbrev pub ends_kept : List Entry → Bool
+ends_kept [] = false
+ends_kept (e ∷ []) = is_kept_mark e.mark
+ends_kept (e ∷ es) = ends_kept es
+
+-- What computes a value that is dropped. One that a made name holds is not.
+abbrev pub dropped : List Entry → List Entry
+dropped w = if ends_kept w then w else w ++ lone mark.Eval
 
 -- a number, or its raw text where it has no value
 abbrev pub number_word : Kind → Docs → List Entry
@@ -33,12 +63,16 @@ get_word key w k ds c =
     c (codes "object") way.Whole
     ++ (c key w ++ spelled mark.Get (flag (is_set (named (codes "optional") k ds))))
 
--- An assignment to a member is object, key, value and the write.
-abbrev pub assignment_word : Kind → Docs → OneField → AllFields → List Entry
-assignment_word k ds c f =
-    if is_put k ds
+-- An assignment to a made name is the value, which the name then holds; one to a member is object, key,
+-- value and the write.
+abbrev pub assignment_word : Known → Kind → Docs → OneField → AllFields → List Entry
+assignment_word f k ds c fs =
+    if is_keep f k ds
+    then c (codes "right") way.Whole
+    ++ spelled mark.Keep (detail (field_of (codes "name") (within (codes "left") k ds)))
+    else if is_put k ds
     then c (codes "left") way.Target ++ (c (codes "right") way.Whole ++ lone mark.Put)
-    else opened k ds (f way.Whole)
+    else opened k ds (fs way.Whole)
 
 -- The elements of a sequence of two or more are dropped, but for the last.
 abbrev pub sequence_word : Kind → Docs → OneField → AllFields → List Entry
@@ -69,32 +103,39 @@ object_word k ds f =
     if is_empty_list (named (codes "properties") k ds) then lone mark.New
     else opened k ds (f way.Whole)
 
--- `x || {}` is what x holds or the empty object; `x || (x = {})` the same, which x then holds.
-abbrev pub logical_word : Kind → Docs → OneField → AllFields → List Entry
-logical_word k ds c f =
+-- the made name and the key of the member `m` in `x || (x = m || (m = {}))`
+abbrev pub base_word : Doc → List Entry
+base_word m = spelled mark.Made (detail (base_name m)) ++ spelled mark.Str (detail (base_key m))
+
+-- `x || {}` is what x holds or the empty object; `x || (x = {})` the same, which x then holds;
+-- `x || (x = b.k || (b.k = {}))` the same, which stands on b under k.
+abbrev pub logical_word : Known → Kind → Docs → OneField → AllFields → List Entry
+logical_word f k ds c fs =
     if is_found k ds then c (codes "left") way.Whole ++ lone mark.Found
     else if is_found_made k ds then c (codes "left") way.Whole ++ lone mark.FoundMade
-    else opened k ds (f way.Whole)
+    else if is_found_made_on f k ds
+    then c (codes "left") way.Whole ++ (base_word (base_in k ds) ++ lone mark.FoundMadeOn)
+    else opened k ds (fs way.Whole)
 
--- A declaration is its declarators, unless only TypeScript has it; one without declarators is a
--- node.
-abbrev pub variables_word : Kind → Docs → OneField → AllFields → List Entry
-variables_word k ds c f =
-    if is_set (named (codes "declare") k ds) then []
-    else if is_empty_list (named (codes "declarations") k ds) then opened k ds (f way.Whole)
-    else c (codes "declarations") (way.Bound (binding_of (named (codes "kind") k ds)))
+-- A declaration is its declarators; one without declarators is a node.
+abbrev pub variables_word : Bool → Kind → Docs → OneField → AllFields → List Entry
+variables_word x k ds c fs =
+    if is_empty_list (named (codes "declarations") k ds) then opened k ds (fs way.Whole)
+    else c (codes "declarations") (way.Bound (binding_of (named (codes "kind") k ds)) x)
 
--- A declarator is its value, which is set, and its pattern; without a value its pattern.
-abbrev pub declarator_word : Binding → Kind → Docs → OneField → List Entry
-declarator_word b k ds c =
-    if is_nil (named (codes "init") k ds) then c (codes "id") (way.Bound b)
-    else c (codes "init") way.Whole ++ (lone mark.Set ++ c (codes "id") (way.Bound b))
+-- A declarator is its value, which is set, and its pattern; without a value its pattern, and nothing if
+-- that is a made name.
+abbrev pub declarator_word : Known → Binding → Bool → Kind → Docs → OneField → List Entry
+declarator_word f b x k ds c =
+    if is_silent f k ds then []
+    else if is_nil (named (codes "init") k ds) then c (codes "id") (way.Bound b x)
+    else c (codes "init") way.Whole ++ (lone mark.Set ++ c (codes "id") (way.Bound b x))
 
 -- A function declaration is its node without the name, and then the name.
-abbrev pub function_word : Kind → Docs → OneField → List Entry
-function_word k ds c =
+abbrev pub function_word : Bool → Kind → Docs → OneField → List Entry
+function_word x k ds c =
     opened k ds (c (codes "params") way.Whole ++ c (codes "body") way.Whole)
-    ++ c (codes "id") (way.Bound binding.Function)
+    ++ c (codes "id") (way.Bound binding.Function x)
 
 -- What stands in a class, in an order of its own: heritage, keys, static parts, fields, methods,
 -- constructor.
@@ -107,42 +148,72 @@ class_parts c =
     ++ (c (codes "body") way.Methods ++ c (codes "body") way.Constructor))))
 
 -- A class declaration is its decorators and parts, and then its name.
-abbrev pub class_word : Kind → Docs → OneField → List Entry
-class_word k ds c =
+abbrev pub class_word : Bool → Kind → Docs → OneField → List Entry
+class_word x k ds c =
     opened k ds (c (codes "decorators") way.Whole ++ class_parts c)
-    ++ c (codes "id") (way.Bound binding.Class)
+    ++ c (codes "id") (way.Bound binding.Class x)
 
 -- A class expression has its name inside, before its parts.
 abbrev pub class_expression_word : Kind → Docs → OneField → List Entry
 class_expression_word k ds c =
     opened k ds (c (codes "decorators") way.Whole
-    ++ (c (codes "id") (way.Bound binding.Inner) ++ class_parts c))
+    ++ (c (codes "id") (way.Bound binding.Inner false) ++ class_parts c))
+
+-- The program of a definition file does nothing.
+abbrev pub program_word : Known → Kind → Docs → AllFields → List Entry
+program_word f k ds fs =
+    if f.is_source && is_text (codes "dts") (named (codes "lang") k ds) then []
+    else hash_word (named (codes "hashbang") k ds) ++ fs way.Whole
+
+-- An erased statement as a branch of an `if` leaves an empty block, and as its alternate nothing.
+abbrev pub if_word : Kind → Docs → OneField → List Entry
+if_word k ds c =
+    opened k ds (c (codes "test") way.Whole
+    ++ (c (codes "consequent") way.Branch ++ c (codes "alternate") way.Alternate))
+
+-- An import of an empty list is one without a list.
+abbrev pub import_word : Kind → Docs → OneField → AllFields → List Entry
+import_word k ds c fs =
+    if is_empty_list (named (codes "specifiers") k ds)
+    then opened k ds (lone mark.Nil ++ (c (codes "source") way.Whole ++ c (codes "withClause") way.Whole))
+    else opened k ds (fs way.Whole)
+
+-- An export of an empty list does nothing.
+abbrev pub export_list_word : Kind → Docs → AllFields → List Entry
+export_list_word k ds fs =
+    if is_empty_list (named (codes "specifiers") k ds) then [] else opened k ds (fs way.Whole)
 
 -- what a node does
-abbrev pub whole_word : Rule → Kind → Docs → OneField → AllFields → List Entry
-whole_word rule.Bare k ds c f = f way.Whole
-whole_word rule.Program k ds c f = hash_word (named (codes "hashbang") k ds) ++ f way.Whole
-whole_word rule.Parameters k ds c f = f way.Whole
-whole_word rule.Transparent k ds c f = c (codes "expression") way.Whole
-whole_word rule.Erased k ds c f = []
-whole_word (rule.Spelled m) k ds c f = spelled m (detail (first ds))
-whole_word (rule.Literal m) k ds c f = spelled m (detail (first ds))
-whole_word rule.This k ds c f = lone mark.This
-whole_word rule.Number k ds c f = number_word k ds
-whole_word rule.StaticMember k ds c f = get_word (codes "property") way.KeyText k ds c
-whole_word rule.ComputedMember k ds c f = get_word (codes "expression") way.Whole k ds c
-whole_word rule.Assignment k ds c f = assignment_word k ds c f
-whole_word rule.Statement k ds c f = c (codes "expression") way.Whole ++ lone mark.Eval
-whole_word rule.Sequence k ds c f = sequence_word k ds c f
-whole_word rule.Arrow k ds c f = arrow_word k ds c
-whole_word rule.Call k ds c f = call_word k ds c f
-whole_word rule.Object k ds c f = object_word k ds f
-whole_word rule.Logical k ds c f = logical_word k ds c f
-whole_word rule.Variables k ds c f = variables_word k ds c f
-whole_word rule.FunctionDeclaration k ds c f = function_word k ds c
-whole_word rule.FunctionExpression k ds c f = opened k ds (f (way.Bound binding.Inner))
-whole_word rule.Parameter k ds c f = opened k ds (f (way.Bound binding.Parameter))
-whole_word (rule.Binds b) k ds c f = opened k ds (f (way.Bound b))
-whole_word rule.ClassDeclaration k ds c f = class_word k ds c
-whole_word rule.ClassExpression k ds c f = class_expression_word k ds c
-whole_word r k ds c f = opened k ds (f way.Whole)
+abbrev pub whole_word : Known → Rule → Kind → Docs → OneField → AllFields → List Entry
+whole_word f rule.Bare k ds c fs = fs way.Whole
+whole_word f rule.Program k ds c fs = program_word f k ds fs
+whole_word f rule.Parameters k ds c fs = fs way.Whole
+whole_word f rule.Transparent k ds c fs = c (codes "expression") way.Whole
+whole_word f rule.Erased k ds c fs = []
+whole_word f rule.Name k ds c fs = name_word f ds
+whole_word f (rule.Spelled m) k ds c fs = spelled m (detail (first ds))
+whole_word f (rule.Literal m) k ds c fs = spelled m (detail (first ds))
+whole_word f rule.This k ds c fs = lone mark.This
+whole_word f rule.Number k ds c fs = number_word k ds
+whole_word f rule.StaticMember k ds c fs = get_word (codes "property") way.KeyText k ds c
+whole_word f rule.ComputedMember k ds c fs = get_word (codes "expression") way.Whole k ds c
+whole_word f rule.Assignment k ds c fs = assignment_word f k ds c fs
+whole_word f rule.Statement k ds c fs = dropped (c (codes "expression") way.Whole)
+whole_word f rule.Sequence k ds c fs = sequence_word k ds c fs
+whole_word f rule.Arrow k ds c fs = arrow_word k ds c
+whole_word f rule.Call k ds c fs = call_word k ds c fs
+whole_word f rule.Object k ds c fs = object_word k ds fs
+whole_word f rule.Logical k ds c fs = logical_word f k ds c fs
+whole_word f rule.Variables k ds c fs = variables_word false k ds c fs
+whole_word f rule.FunctionDeclaration k ds c fs = function_word false k ds c
+whole_word f rule.FunctionExpression k ds c fs = opened k ds (fs (way.Bound binding.Inner false))
+whole_word f rule.Parameter k ds c fs = opened k ds (fs (way.Bound binding.Parameter false))
+whole_word f (rule.Binds b) k ds c fs = opened k ds (fs (way.Bound b false))
+whole_word f rule.ClassDeclaration k ds c fs = class_word false k ds c
+whole_word f rule.ClassExpression k ds c fs = class_expression_word k ds c
+whole_word f rule.If k ds c fs = if_word k ds c
+whole_word f rule.Loop k ds c fs = opened k ds (fs way.Branch)
+whole_word f rule.Import k ds c fs = import_word k ds c fs
+whole_word f rule.Export k ds c fs = c (codes "declaration") way.Exported
+whole_word f rule.ExportList k ds c fs = export_list_word k ds fs
+whole_word f r k ds c fs = opened k ds (fs way.Whole)

@@ -4,114 +4,157 @@ ghost use Rattle.oxt_tree.specs.Fields.{named};
 ghost use Rattle.oxt_tree.specs.View.{docs_in};
 ghost use Rattle.oxt_item.specs.Entry.{detail, entries, lone};
 ghost use Rattle.oxt_word.specs.Node.{start};
-ghost use Rattle.oxt_word.specs.Ways.{block_word, constructor_word, field_word, fields_word, key_text, keyed_word, keys_word, method_word, methods_word, opened_word, statics_word};
+ghost use Rattle.oxt_word.specs.Ways.{block_word, constructor_word, field_word, fields_word, key_text, keyed_word, keys_word, method_word, methods_word, opened_word, passed_word, statics_word};
 ghost use Rattle.oxt_word.specs.Whole.{class_expression_word, class_parts, class_word};
 ghost use Rattle.oxt_word.specs.Word.{all_fields, each_field};
 
-use crate::forms::{is_long, is_quiet};
 use crate::put::{
     field_atom, put_field_start, put_first, put_lone, put_number, put_open, put_start,
 };
 use crate::rule::Rule;
 use crate::way::Way;
 use crate::word::{put_field, put_fields, put_plain, put_whole};
+use oxt_forms::facts::Facts;
+use oxt_forms::forms::is_long;
+use oxt_forms::made::is_quiet;
+use oxt_forms::passing::{is_passing, passes_on};
 use oxt_item::item::{Binding, Item, Mark};
 use oxt_tree::ids::OutOfMemory;
 use oxt_tree::tree::Node;
-use std::alloc::Global;
 use std::vec;
 
 /// Puts what stands in a class, in an order of its own.
 #[cycle(word)]
-fn put_class_parts(alloc: Global, node: &Node, out: &mut Vec<Item>) -> Result<(), OutOfMemory>
+fn put_class_parts(facts: &Facts, node: &Node, out: &mut Vec<Item>) -> Result<(), OutOfMemory>
     ensures { OnOk result (entries out.new.items
-        ≡ entries out.old.items ++ class_parts (each_field node.now)) }
+        ≡ entries out.old.items ++ class_parts (each_field facts.now node.now)) }
 {
-    put_field(alloc, node, "superClass", Way::Whole, out)?;
-    put_field(alloc, node, "body", Way::Keys, out)?;
-    put_field(alloc, node, "body", Way::Statics, out)?;
-    put_field(alloc, node, "body", Way::Fields, out)?;
-    put_field(alloc, node, "body", Way::Methods, out)?;
-    put_field(alloc, node, "body", Way::Constructor, out)
+    put_field(facts, node, "superClass", Way::Whole, out)?;
+    put_field(facts, node, "body", Way::Keys, out)?;
+    put_field(facts, node, "body", Way::Statics, out)?;
+    put_field(facts, node, "body", Way::Fields, out)?;
+    put_field(facts, node, "body", Way::Methods, out)?;
+    put_field(facts, node, "body", Way::Constructor, out)
 }
 
-/// Puts a declaration of a class, and then its name.
+/// Puts a declaration of a class, and then its name, which is exported or not.
 #[cycle(word)]
-pub(crate) fn put_class(alloc: Global, node: &Node, out: &mut Vec<Item>) -> Result<(), OutOfMemory>
+pub(crate) fn put_class(
+    facts: &Facts,
+    exported: bool,
+    node: &Node,
+    out: &mut Vec<Item>,
+) -> Result<(), OutOfMemory>
     ensures { OnOk result (entries out.new.items
-        ≡ entries out.old.items ++ class_word node.now.kind (docs_in node.now.parts.items)
-        (each_field node.now)) }
+        ≡ entries out.old.items ++ class_word exported node.now.kind (docs_in node.now.parts.items)
+        (each_field facts.now node.now)) }
 {
-    put_open(alloc, node, out)?;
-    put_field(alloc, node, "decorators", Way::Whole, out)?;
-    put_class_parts(alloc, node, out)?;
-    put_lone(alloc, Mark::Close, out)?;
-    put_field(alloc, node, "id", Way::Bound(Binding::Class), out)
+    put_open(facts.memory(), node, out)?;
+    put_field(facts, node, "decorators", Way::Whole, out)?;
+    put_class_parts(facts, node, out)?;
+    put_lone(facts.memory(), Mark::Close, out)?;
+    put_field(facts, node, "id", Way::Bound(Binding::Class, exported), out)
 }
 
 /// Puts a class expression.
 #[cycle(word)]
 pub(crate) fn put_class_expression(
-    alloc: Global,
+    facts: &Facts,
     node: &Node,
     out: &mut Vec<Item>,
 ) -> Result<(), OutOfMemory>
     ensures { OnOk result (entries out.new.items
         ≡ entries out.old.items ++ class_expression_word node.now.kind
-        (docs_in node.now.parts.items) (each_field node.now)) }
+        (docs_in node.now.parts.items) (each_field facts.now node.now)) }
 {
-    put_open(alloc, node, out)?;
-    put_field(alloc, node, "decorators", Way::Whole, out)?;
-    put_field(alloc, node, "id", Way::Bound(Binding::Inner), out)?;
-    put_class_parts(alloc, node, out)?;
-    put_lone(alloc, Mark::Close, out)
+    put_open(facts.memory(), node, out)?;
+    put_field(facts, node, "decorators", Way::Whole, out)?;
+    put_field(facts, node, "id", Way::Bound(Binding::Inner, false), out)?;
+    put_class_parts(facts, node, out)?;
+    put_lone(facts.memory(), Mark::Close, out)
 }
 
 /// Puts the function of a constructor.
 #[cycle(word)]
 pub(crate) fn put_opened(
-    alloc: Global,
+    facts: &Facts,
     rule: Rule,
     node: &Node,
     out: &mut Vec<Item>,
 ) -> Result<(), OutOfMemory>
     ensures { OnOk result (entries out.new.items
-        ≡ entries out.old.items ++ opened_word rule node.now.kind (docs_in node.now.parts.items)
-        (each_field node.now) (all_fields node.now)) }
+        ≡ entries out.old.items ++ opened_word facts.now rule node.now.kind (docs_in node.now.parts.items)
+        (each_field facts.now node.now) (all_fields facts.now node.now)) }
 {
     match rule {
-        Rule::FunctionExpression => {
-            put_field(alloc, node, "params", Way::Whole, out)?;
-            put_lone(alloc, Mark::Body, out)?;
-            put_field(alloc, node, "body", Way::Whole, out)
-        }
-        _ => put_whole(alloc, rule, node, out),
+        Rule::FunctionExpression => put_constructor_function(facts, node, out),
+        _ => put_whole(facts, rule, node, out),
+    }
+}
+
+/// Puts the parameters and the body of a constructor; one that passes on what it is given has no parameters.
+#[cycle(word)]
+fn put_constructor_function(
+    facts: &Facts,
+    node: &Node,
+    out: &mut Vec<Item>,
+) -> Result<(), OutOfMemory>
+    ensures { OnOk result (entries out.new.items
+        ≡ entries out.old.items ++ opened_word facts.now Rule.FunctionExpression node.now.kind
+        (docs_in node.now.parts.items) (each_field facts.now node.now) (all_fields facts.now node.now)) }
+{
+    if passes_on(facts, node) {
+        put_lone(facts.memory(), Mark::Nil, out)?;
+        put_lone(facts.memory(), Mark::Body, out)?;
+        return put_field(facts, node, "body", Way::PassOn, out);
+    }
+    put_field(facts, node, "params", Way::Whole, out)?;
+    put_lone(facts.memory(), Mark::Body, out)?;
+    put_field(facts, node, "body", Way::Whole, out)
+}
+
+/// Puts the body of a constructor that passes on what it is given.
+#[cycle(word)]
+pub(crate) fn put_passed(
+    facts: &Facts,
+    rule: Rule,
+    node: &Node,
+    out: &mut Vec<Item>,
+) -> Result<(), OutOfMemory>
+    ensures { OnOk result (entries out.new.items
+        ≡ entries out.old.items ++ passed_word facts.now rule node.now.kind (docs_in node.now.parts.items)
+        (each_field facts.now node.now) (all_fields facts.now node.now)) }
+{
+    match rule {
+        Rule::Bare => put_fields(facts, node.kind.rows(), &node.parts, Way::PassOn, out),
+        Rule::Statement if is_passing(facts, node) => put_lone(facts.memory(), Mark::PassOn, out),
+        _ => put_whole(facts, rule, node, out),
     }
 }
 
 /// Puts what a key of a class computes.
 #[cycle(word)]
 pub(crate) fn put_keyed(
-    alloc: Global,
+    facts: &Facts,
     rule: Rule,
     node: &Node,
     out: &mut Vec<Item>,
 ) -> Result<(), OutOfMemory>
     ensures { OnOk result (entries out.new.items
-        ≡ entries out.old.items ++ keyed_word rule node.now.kind (docs_in node.now.parts.items)
-        (each_field node.now) (all_fields node.now)) }
+        ≡ entries out.old.items ++ keyed_word facts.now rule node.now.kind (docs_in node.now.parts.items)
+        (each_field facts.now node.now) (all_fields facts.now node.now)) }
 {
     match rule {
-        Rule::Transparent => put_field(alloc, node, "expression", Way::Keyed, out),
+        Rule::Transparent => put_field(facts, node, "expression", Way::Keyed, out),
         Rule::Sequence if is_long(node) => {
-            put_field(alloc, node, "expressions", Way::InTurnKeyed, out)
+            put_field(facts, node, "expressions", Way::InTurnKeyed, out)
         }
         Rule::PropertyName => Ok(()),
         Rule::Literal(_) => Ok(()),
         Rule::Number => Ok(()),
         _ => {
-            put_whole(alloc, rule, node, out)?;
-            put_lone(alloc, Mark::Key, out)
+            put_whole(facts, rule, node, out)?;
+            put_lone(facts.memory(), Mark::Key, out)
         }
     }
 }
@@ -119,23 +162,23 @@ pub(crate) fn put_keyed(
 /// Puts the text of a key.
 #[cycle(word)]
 pub(crate) fn put_key_text(
-    alloc: Global,
+    facts: &Facts,
     rule: Rule,
     node: &Node,
     out: &mut Vec<Item>,
 ) -> Result<(), OutOfMemory>
     ensures { OnOk result (entries out.new.items
         ≡ entries out.old.items ++ key_text rule node.now.kind (docs_in node.now.parts.items)
-        (each_field node.now)) }
+        (each_field facts.now node.now)) }
 {
     match rule {
-        Rule::Transparent => put_field(alloc, node, "expression", Way::KeyText, out),
+        Rule::Transparent => put_field(facts, node, "expression", Way::KeyText, out),
         Rule::Sequence if is_long(node) => {
-            put_field(alloc, node, "expressions", Way::LastText, out)
+            put_field(facts, node, "expressions", Way::LastText, out)
         }
-        Rule::PropertyName => put_first(alloc, Mark::Str, node, out),
-        Rule::Literal(mark) => put_first(alloc, mark, node, out),
-        Rule::Number => put_number(alloc, node, out),
+        Rule::PropertyName => put_first(facts.memory(), Mark::Str, node, out),
+        Rule::Literal(mark) => put_first(facts.memory(), mark, node, out),
+        Rule::Number => put_number(facts.memory(), node, out),
         _ => Ok(()),
     }
 }
@@ -143,51 +186,51 @@ pub(crate) fn put_key_text(
 /// Puts the decorators of a class's element and what its key computes.
 #[cycle(word)]
 pub(crate) fn put_keys(
-    alloc: Global,
+    facts: &Facts,
     rule: Rule,
     node: &Node,
     out: &mut Vec<Item>,
 ) -> Result<(), OutOfMemory>
     ensures { OnOk result (entries out.new.items
-        ≡ entries out.old.items ++ keys_word rule (each_field node.now) (all_fields node.now)) }
+        ≡ entries out.old.items ++ keys_word rule (each_field facts.now node.now) (all_fields facts.now node.now)) }
 {
     match rule {
-        Rule::Bare => put_fields(alloc, node.kind.rows(), &node.parts, Way::Keys, out),
-        Rule::Method => put_element_key(alloc, node, out),
-        Rule::ClassField(_) => put_element_key(alloc, node, out),
+        Rule::Bare => put_fields(facts, node.kind.rows(), &node.parts, Way::Keys, out),
+        Rule::Method => put_element_key(facts, node, out),
+        Rule::ClassField(_) => put_element_key(facts, node, out),
         _ => Ok(()),
     }
 }
 
 /// Puts the decorators and the key of an element.
 #[cycle(word)]
-fn put_element_key(alloc: Global, node: &Node, out: &mut Vec<Item>) -> Result<(), OutOfMemory>
+fn put_element_key(facts: &Facts, node: &Node, out: &mut Vec<Item>) -> Result<(), OutOfMemory>
     ensures { OnOk result (entries out.new.items
-        ≡ entries out.old.items ++ keys_word Rule.Method (each_field node.now)
-        (all_fields node.now)) }
+        ≡ entries out.old.items ++ keys_word Rule.Method (each_field facts.now node.now)
+        (all_fields facts.now node.now)) }
 {
-    put_field(alloc, node, "decorators", Way::Whole, out)?;
-    put_field(alloc, node, "key", Way::Keyed, out)
+    put_field(facts, node, "decorators", Way::Whole, out)?;
+    put_field(facts, node, "key", Way::Keyed, out)
 }
 
 /// Puts the static fields and blocks of a class.
 #[cycle(word)]
 pub(crate) fn put_statics(
-    alloc: Global,
+    facts: &Facts,
     rule: Rule,
     node: &Node,
     out: &mut Vec<Item>,
 ) -> Result<(), OutOfMemory>
     ensures { OnOk result (entries out.new.items
-        ≡ entries out.old.items ++ statics_word rule node.now.kind (docs_in node.now.parts.items)
-        (each_field node.now) (all_fields node.now)) }
+        ≡ entries out.old.items ++ statics_word facts.now rule node.now.kind (docs_in node.now.parts.items)
+        (each_field facts.now node.now) (all_fields facts.now node.now)) }
 {
     match rule {
-        Rule::Bare => put_fields(alloc, node.kind.rows(), &node.parts, Way::Statics, out),
+        Rule::Bare => put_fields(facts, node.kind.rows(), &node.parts, Way::Statics, out),
         Rule::ClassField(is_accessor) if node.flag("static") => {
-            put_class_field(alloc, node, true, is_accessor, out)
+            put_class_field(facts, node, true, is_accessor, out)
         }
-        Rule::StaticBlock => put_block(alloc, node, out),
+        Rule::StaticBlock => put_block(facts, node, out),
         _ => Ok(()),
     }
 }
@@ -195,19 +238,19 @@ pub(crate) fn put_statics(
 /// Puts the fields of the instances of a class.
 #[cycle(word)]
 pub(crate) fn put_instance_fields(
-    alloc: Global,
+    facts: &Facts,
     rule: Rule,
     node: &Node,
     out: &mut Vec<Item>,
 ) -> Result<(), OutOfMemory>
     ensures { OnOk result (entries out.new.items
-        ≡ entries out.old.items ++ fields_word rule node.now.kind (docs_in node.now.parts.items)
-        (each_field node.now) (all_fields node.now)) }
+        ≡ entries out.old.items ++ fields_word facts.now rule node.now.kind (docs_in node.now.parts.items)
+        (each_field facts.now node.now) (all_fields facts.now node.now)) }
 {
     match rule {
-        Rule::Bare => put_fields(alloc, node.kind.rows(), &node.parts, Way::Fields, out),
+        Rule::Bare => put_fields(facts, node.kind.rows(), &node.parts, Way::Fields, out),
         Rule::ClassField(is_accessor) if !node.flag("static") => {
-            put_class_field(alloc, node, false, is_accessor, out)
+            put_class_field(facts, node, false, is_accessor, out)
         }
         _ => Ok(()),
     }
@@ -216,83 +259,83 @@ pub(crate) fn put_instance_fields(
 /// Puts a field of a class: its key's text and its value.
 #[cycle(word)]
 fn put_class_field(
-    alloc: Global,
+    facts: &Facts,
     node: &Node,
     is_static: bool,
     is_accessor: bool,
     out: &mut Vec<Item>,
 ) -> Result<(), OutOfMemory>
     ensures { OnOk result (entries out.new.items
-        ≡ entries out.old.items ++ field_word is_static is_accessor (each_field node.now)) }
+        ≡ entries out.old.items ++ field_word is_static is_accessor (each_field facts.now node.now)) }
 {
-    put_field_start(alloc, is_static, is_accessor, out)?;
-    put_field(alloc, node, "key", Way::KeyText, out)?;
-    put_field(alloc, node, "value", Way::Whole, out)?;
-    put_lone(alloc, Mark::Define, out)
+    put_field_start(facts.memory(), is_static, is_accessor, out)?;
+    put_field(facts, node, "key", Way::KeyText, out)?;
+    put_field(facts, node, "value", Way::Whole, out)?;
+    put_lone(facts.memory(), Mark::Define, out)
 }
 
 /// Puts a static block.
 #[cycle(word)]
-fn put_block(alloc: Global, node: &Node, out: &mut Vec<Item>) -> Result<(), OutOfMemory>
+fn put_block(facts: &Facts, node: &Node, out: &mut Vec<Item>) -> Result<(), OutOfMemory>
     ensures { OnOk result (entries out.new.items
-        ≡ entries out.old.items ++ block_word node.now.kind (docs_in node.now.parts.items)
-        (each_field node.now) (all_fields node.now)) }
+        ≡ entries out.old.items ++ block_word facts.now node.now.kind (docs_in node.now.parts.items)
+        (each_field facts.now node.now) (all_fields facts.now node.now)) }
 {
-    if is_quiet(node) {
-        return put_field(alloc, node, "body", Way::Whole, out);
+    if is_quiet(facts, node) {
+        return put_field(facts, node, "body", Way::Whole, out);
     }
-    put_plain(alloc, node, Way::Whole, out)
+    put_plain(facts, node, Way::Whole, out)
 }
 
 /// Puts the methods of a class.
 #[cycle(word)]
 pub(crate) fn put_methods(
-    alloc: Global,
+    facts: &Facts,
     rule: Rule,
     node: &Node,
     out: &mut Vec<Item>,
 ) -> Result<(), OutOfMemory>
     ensures { OnOk result (entries out.new.items
-        ≡ entries out.old.items ++ methods_word rule node.now.kind (docs_in node.now.parts.items)
-        (each_field node.now) (all_fields node.now)) }
+        ≡ entries out.old.items ++ methods_word facts.now rule node.now.kind (docs_in node.now.parts.items)
+        (each_field facts.now node.now) (all_fields facts.now node.now)) }
 {
     match rule {
-        Rule::Bare => put_fields(alloc, node.kind.rows(), &node.parts, Way::Methods, out),
-        Rule::Method if !node.holds_text("kind", "constructor") => put_method(alloc, node, out),
+        Rule::Bare => put_fields(facts, node.kind.rows(), &node.parts, Way::Methods, out),
+        Rule::Method if !node.holds_text("kind", "constructor") => put_method(facts, node, out),
         _ => Ok(()),
     }
 }
 
 /// Puts a method: its start, its key's text, its function and its end.
 #[cycle(word)]
-fn put_method(alloc: Global, node: &Node, out: &mut Vec<Item>) -> Result<(), OutOfMemory>
+fn put_method(facts: &Facts, node: &Node, out: &mut Vec<Item>) -> Result<(), OutOfMemory>
     ensures { OnOk result (entries out.new.items
         ≡ entries out.old.items ++ method_word node.now.kind (docs_in node.now.parts.items)
-        (each_field node.now)) }
+        (each_field facts.now node.now)) }
 {
-    let details = vec![in alloc; field_atom(node, "kind")?, field_atom(node, "static")?]?;
+    let details = vec![in facts.memory(); field_atom(node, "kind")?, field_atom(node, "static")?]?;
     put_start(node.kind, details, out)?;
-    put_field(alloc, node, "key", Way::KeyText, out)?;
-    put_field(alloc, node, "value", Way::Whole, out)?;
-    put_lone(alloc, Mark::Close, out)
+    put_field(facts, node, "key", Way::KeyText, out)?;
+    put_field(facts, node, "value", Way::Whole, out)?;
+    put_lone(facts.memory(), Mark::Close, out)
 }
 
 /// Puts the constructor of a class.
 #[cycle(word)]
 pub(crate) fn put_constructor(
-    alloc: Global,
+    facts: &Facts,
     rule: Rule,
     node: &Node,
     out: &mut Vec<Item>,
 ) -> Result<(), OutOfMemory>
     ensures { OnOk result (entries out.new.items
-        ≡ entries out.old.items ++ constructor_word rule node.now.kind
-        (docs_in node.now.parts.items) (each_field node.now) (all_fields node.now)) }
+        ≡ entries out.old.items ++ constructor_word facts.now rule node.now.kind
+        (docs_in node.now.parts.items) (each_field facts.now node.now) (all_fields facts.now node.now)) }
 {
     match rule {
-        Rule::Bare => put_fields(alloc, node.kind.rows(), &node.parts, Way::Constructor, out),
+        Rule::Bare => put_fields(facts, node.kind.rows(), &node.parts, Way::Constructor, out),
         Rule::Method if node.holds_text("kind", "constructor") => {
-            put_constructor_node(alloc, node, out)
+            put_constructor_node(facts, node, out)
         }
         _ => Ok(()),
     }
@@ -300,14 +343,14 @@ pub(crate) fn put_constructor(
 
 /// Puts a constructor: its start, its parameters and body, and its end.
 #[cycle(word)]
-fn put_constructor_node(alloc: Global, node: &Node, out: &mut Vec<Item>) -> Result<(), OutOfMemory>
+fn put_constructor_node(facts: &Facts, node: &Node, out: &mut Vec<Item>) -> Result<(), OutOfMemory>
     ensures { OnOk result (entries out.new.items
         ≡ entries out.old.items ++ (start node.now.kind (detail (named (codes "kind") node.now.kind
-        (docs_in node.now.parts.items)) ∷ []) ++ (each_field node.now (codes "value") Way.Opened
+        (docs_in node.now.parts.items)) ∷ []) ++ (each_field facts.now node.now (codes "value") Way.Opened
         ++ lone Mark.Close))) }
 {
-    let details = vec![in alloc; field_atom(node, "kind")?]?;
+    let details = vec![in facts.memory(); field_atom(node, "kind")?]?;
     put_start(node.kind, details, out)?;
-    put_field(alloc, node, "value", Way::Opened, out)?;
-    put_lone(alloc, Mark::Close, out)
+    put_field(facts, node, "value", Way::Opened, out)?;
+    put_lone(facts.memory(), Mark::Close, out)
 }

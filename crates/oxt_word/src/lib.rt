@@ -2,8 +2,8 @@
 #![tactic(auto)]
 
 mod class;
-pub mod forms;
-pub mod put;
+mod gone;
+mod put;
 pub mod rule;
 pub mod rule_of;
 #[cfg(test)]

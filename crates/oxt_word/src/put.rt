@@ -1,15 +1,22 @@
 //! Items at the end of a word.
-ghost use Rattle.std.specs.Prelude.{◌≡◌, ◌∷◌, [], ◌++◌, IfOk, OnOk, map, not, codes, if◌then◌else◌};
+ghost use Rattle.std.specs.Prelude.{◌≡◌, ◌∷◌, [], ◌++◌, IfOk, OnOk, map, not, codes, drop, take, if◌then◌else◌};
 ghost use Rattle.oxt_table.specs.Field.{row_view};
 ghost use Rattle.oxt_table.specs.Rows.{row_of};
 ghost use Rattle.oxt_tree.specs.Fields.{first};
-ghost use Rattle.oxt_tree.specs.Doc.{flag, nil, text};
-ghost use Rattle.oxt_tree.specs.Fields.{named, is_nil};
-ghost use Rattle.oxt_tree.specs.View.{docs_in, part_doc};
-ghost use Rattle.oxt_item.specs.Entry.{atom_doc, binding_text, detail, detailed, entries, entry_of, lone, spelled};
+ghost use Rattle.oxt_tree.specs.Doc.{flag, nil};
+ghost use Rattle.oxt_tree.specs.Fields.{field_of, named, is_nil};
+ghost use Rattle.oxt_tree.specs.View.{docs_in, doc_or_nil, part_doc};
+ghost use Rattle.oxt_item.specs.Entry.{atom_doc, detail, detailed, entries, entry_of, lone, spelled};
 ghost use Rattle.oxt_word.specs.Node.{details, is_atom, is_detail, is_read, start};
-ghost use Rattle.oxt_word.specs.Whole.{hash_word, number_word};
+ghost use Rattle.oxt_word.specs.Ways.{in_word};
+ghost use Rattle.oxt_word.specs.Whole.{base_word, bind_word, dropped, ends_kept, hash_word, is_kept_mark, name_word, number_word};
+ghost use Rattle.oxt_forms.specs.Facts.{is_made};
+ghost use Rattle.oxt_forms.specs.Forms.{within};
+ghost use Rattle.oxt_forms.specs.Made.{base_in};
 
+use oxt_forms::base::{base_in, base_key, base_name};
+use oxt_forms::facts::Facts;
+use oxt_forms::forms::within;
 use oxt_item::item::{Atom, Binding, Item, Mark};
 use oxt_table::holds::{Holds, Row};
 use oxt_table::kind::Kind;
@@ -188,34 +195,142 @@ pub fn put_first(
     put_spelled(alloc, mark, first_atom(node)?, out)
 }
 
-/// Puts the name, which is declared as that.
+/// Puts the use of the name, which may be made.
+pub fn put_name(facts: &Facts, node: &Node, out: &mut Vec<Item>) -> Result<(), OutOfMemory>
+    ensures { OnOk result (entries out.new.items
+        ≡ entries out.old.items ++ name_word facts.now (docs_in node.now.parts.items)) }
+{
+    let mark = if begins_made(facts, node) {
+        Mark::Made
+    } else {
+        Mark::Name
+    };
+    put_first(facts.memory(), mark, node, out)
+}
+
+/// Whether the node's own text is the spelling of a made name.
+fn begins_made(facts: &Facts, node: &Node) -> bool
+    ensures { result ≡ is_made facts.now (first (docs_in node.now.parts.items)) }
+{
+    match node.parts.first() {
+        Some(part) => facts.is_made(part),
+        None => false,
+    }
+}
+
+/// Puts the name, which is declared as that, and exported or not.
 pub fn put_bind(
-    alloc: Global,
+    facts: &Facts,
     binding: Binding,
+    exported: bool,
     node: &Node,
     out: &mut Vec<Item>,
 ) -> Result<(), OutOfMemory>
     ensures { OnOk result (entries out.new.items
-        ≡ entries out.old.items ++ detailed Mark.Bind
-        (detail (first (docs_in node.now.parts.items))) (text (binding_text binding) ∷ [])) }
+        ≡ entries out.old.items
+        ++ bind_word facts.now binding exported (docs_in node.now.parts.items)) }
 {
-    let details = vec![in alloc; Atom::Binding(binding)]?;
-    put_detailed(Mark::Bind, first_atom(node)?, details, out)
+    let mark = if begins_made(facts, node) {
+        Mark::BindMade
+    } else {
+        Mark::Bind
+    };
+    let details = vec![in facts.memory(); Atom::Binding(binding), Atom::Flag(exported)]?;
+    put_detailed(mark, first_atom(node)?, details, out)
 }
 
 /// Puts the entry into a function, whose parameter is the name, by a call with that pure flag.
 pub fn put_in(
-    alloc: Global,
+    facts: &Facts,
     pure: bool,
     node: &Node,
     out: &mut Vec<Item>,
 ) -> Result<(), OutOfMemory>
     ensures { OnOk result (entries out.new.items
-        ≡ entries out.old.items ++ detailed Mark.In
-        (detail (first (docs_in node.now.parts.items))) (flag pure ∷ [])) }
+        ≡ entries out.old.items ++ in_word facts.now pure (docs_in node.now.parts.items)) }
 {
-    let details = vec![in alloc; Atom::Flag(pure)]?;
-    put_detailed(Mark::In, first_atom(node)?, details, out)
+    let mark = if begins_made(facts, node) {
+        Mark::InMade
+    } else {
+        Mark::In
+    };
+    let details = vec![in facts.memory(); Atom::Flag(pure)]?;
+    put_detailed(mark, first_atom(node)?, details, out)
+}
+
+/// The name to which an assignment assigns.
+pub fn target_atom(node: &Node) -> Result<Atom, OutOfMemory>
+    ensures { IfOk result (λ atom. atom_doc atom ≡ detail (field_of (codes "name")
+        (within (codes "left") node.now.kind (docs_in node.now.parts.items)))) }
+{
+    match within(node, "left") {
+        Some(Part::Node(name)) => field_atom(name, "name"),
+        _ => Ok(Atom::Nothing),
+    }
+}
+
+/// Puts the made name and the key of the member `m` in `x || (x = m || (m = {}))`.
+pub fn put_base(alloc: Global, node: &Node, out: &mut Vec<Item>) -> Result<(), OutOfMemory>
+    ensures { OnOk result (entries out.new.items
+        ≡ entries out.old.items ++ base_word (base_in node.now.kind (docs_in node.now.parts.items))) }
+{
+    match base_in(node) {
+        Some(member) => put_member(alloc, member, out),
+        None => put_member(alloc, &Part::Nothing, out),
+    }
+}
+
+/// Puts the name and the key of the member.
+fn put_member(alloc: Global, member: &Part, out: &mut Vec<Item>) -> Result<(), OutOfMemory>
+    ensures { OnOk result (entries out.new.items
+        ≡ entries out.old.items ++ base_word (part_doc member.now)) }
+{
+    put_spelled(alloc, Mark::Made, atom_in(base_name(member))?, out)?;
+    put_spelled(alloc, Mark::Str, atom_in(base_key(member))?, out)
+}
+
+/// The text, number or flag itself; nothing where there is none.
+fn atom_in(part: Option<&Part>) -> Result<Atom, OutOfMemory>
+    ensures { IfOk result (λ atom. atom_doc atom ≡ detail (doc_or_nil part.entry)) }
+{
+    match part {
+        Some(part) => atom_of(part),
+        None => Ok(Atom::Nothing),
+    }
+}
+
+/// Puts that what stands from that place on is dropped, unless a made name holds it.
+#[tactic(auto, using(crate::proofs::Drops::held, crate::proofs::Drops::let_go))]
+pub fn put_dropped(alloc: Global, from: usize, out: &mut Vec<Item>) -> Result<(), OutOfMemory>
+    ensures { OnOk result (entries out.new.items
+        ≡ take from (entries out.old.items) ++ dropped (drop from (entries out.old.items))) }
+{
+    if ends_kept(out.as_slice(), from) {
+        return Ok(());
+    }
+    put_lone(alloc, Mark::Eval, out)
+}
+
+/// Whether a made name holds what stands from that place on.
+#[tactic(auto, using(crate::proofs::Drops::nothing_last, crate::proofs::Drops::kept_last))]
+fn ends_kept(items: &[Item], from: usize) -> bool
+    ensures { result ≡ ends_kept (drop from (entries items.now)) }
+{
+    let count = items.len();
+    if count <= from {
+        return false;
+    }
+    is_kept(items[count - 1].mark)
+}
+
+/// Whether it is the mark of a value that a made name holds.
+fn is_kept(mark: Mark) -> bool
+    ensures { result ≡ is_kept_mark mark }
+{
+    match mark {
+        Mark::Keep => true,
+        _ => false,
+    }
 }
 
 /// Puts the start of a field of a class.

@@ -17,6 +17,8 @@ pub enum Rule {
     Transparent,
     /// Nothing.
     Erased,
+    /// The use of a name.
+    Name,
     /// One item, with the node's text.
     Spelled(Mark),
     /// The same, which may be the text of a key.
@@ -73,4 +75,18 @@ pub enum Rule {
     ClassField(bool),
     /// A static block of a class.
     StaticBlock,
+    /// A choice between statements.
+    If,
+    /// A loop.
+    Loop,
+    /// An import.
+    Import,
+    /// An export of a declaration.
+    Export,
+    /// An export of a list of names.
+    ExportList,
+    /// Another export, or a part of one, that may be of types alone.
+    ExportPart,
+    /// The export of a default.
+    ExportDefault,
 }

@@ -7,8 +7,14 @@ use oxt_item::item::Binding;
 pub enum Way {
     /// As what it does.
     Whole,
-    /// As a pattern whose names are bound as that.
-    Bound(Binding),
+    /// As a pattern whose names are bound as that, and exported or not.
+    Bound(Binding, bool),
+    /// As a declaration that is exported.
+    Exported,
+    /// As the body of a loop or of an `if`.
+    Branch,
+    /// As the alternate of an `if`.
+    Alternate,
     /// As elements that are dropped, all but the last.
     InTurn,
     /// The same, with a key as the last.
@@ -21,6 +27,8 @@ pub enum Way {
     Entered(bool),
     /// As the function of a constructor: parameters and body.
     Opened,
+    /// As the body of a constructor that passes on what it is given.
+    PassOn,
     /// As a key, where keys are computed.
     Keyed,
     /// As the text of a key, which needs no computing.

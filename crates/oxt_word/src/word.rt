@@ -4,108 +4,135 @@ ghost use Rattle.oxt_table.specs.Field.{row_view};
 ghost use Rattle.oxt_tree.specs.View.{docs_in, node_doc, part_doc};
 ghost use Rattle.oxt_item.specs.Entry.{entries, lone};
 ghost use Rattle.oxt_word.specs.Node.{is_read, opened};
-ghost use Rattle.oxt_word.specs.Ways.{bound_word, entered_word, target_word};
-ghost use Rattle.oxt_word.specs.Whole.{arrow_word, assignment_word, body_word, call_word, declarator_word, function_word, get_word, logical_word, object_word, sequence_word, variables_word, whole_word};
-ghost use Rattle.oxt_word.specs.Word.{all_fields, each_field, each_said, fields_said, last_said, list_word, said, turns_said, word};
+ghost use Rattle.oxt_word.specs.Ways.{bound_word, entered_word, exported_word, target_word};
+ghost use Rattle.oxt_word.specs.Whole.{arrow_word, assignment_word, body_word, call_word, declarator_word, dropped, export_list_word, function_word, get_word, if_word, import_word, logical_word, object_word, sequence_word, variables_word, whole_word};
+ghost use Rattle.oxt_word.specs.Word.{all_fields, each_field, each_said, fields_said, last_said, list_word, said, turns_said, way_word, word};
 
 use crate::class::{
     put_class, put_class_expression, put_constructor, put_instance_fields, put_key_text, put_keyed,
-    put_keys, put_methods, put_opened, put_statics,
+    put_keys, put_methods, put_opened, put_passed, put_statics,
 };
-use crate::forms::{
-    binding_of, is_called, is_found, is_found_made, is_long, is_put, lists_nothing,
-};
+use crate::gone::{is_gone, put_gone};
 use crate::put::{
-    is_read, put_bind, put_first, put_hash, put_in, put_lone, put_number, put_open, put_spelled,
-    put_start,
+    is_read, put_base, put_bind, put_dropped, put_first, put_hash, put_in, put_lone, put_name,
+    put_number, put_open, put_spelled, put_start, target_atom,
 };
 use crate::rule::Rule;
 use crate::rule_of::rule_of;
 use crate::way::Way;
+use oxt_forms::base::is_found_made_on;
+use oxt_forms::facts::Facts;
+use oxt_forms::forms::{
+    binding_of, is_called, is_found, is_found_made, is_long, is_put, lists_nothing,
+};
+use oxt_forms::made::{is_keep, is_silent};
 use oxt_item::item::{Atom, Binding, Item, Mark};
+use oxt_item::tags::number_tags;
 use oxt_table::holds::Row;
 use oxt_table::kind::Kind;
 use oxt_tree::fields::place_of;
 use oxt_tree::ids::OutOfMemory;
 use oxt_tree::tree::{Node, Part};
-use std::alloc::Global;
 
-/// The effect word of the tree: what its code does, as a flat list.
+/// The effect word of the tree, of whose names that is known: what its code does, as a flat list.
 ///
 /// # Errors
 ///
 /// Fails only where memory runs out.
-pub fn word_of(alloc: Global, program: &Node) -> Result<Vec<Item>, OutOfMemory>
-    ensures { IfOk result (λ items. entries items.items ≡ word (node_doc program.now)) }
+pub fn word_of(facts: &Facts, program: &Node) -> Result<Vec<Item>, OutOfMemory>
+    ensures { IfOk result (λ items. entries items.items ≡ word facts.now (node_doc program.now)) }
 {
-    let mut items = Vec::new(alloc);
-    put_node(alloc, program, Way::Whole, &mut items)?;
+    let mut items = Vec::new(facts.memory());
+    put_node(facts, program, Way::Whole, &mut items)?;
+    number_tags(facts.memory(), &mut items)?;
     Ok(items)
 }
 
 /// Puts what the node does, read that way.
 #[cycle(word)]
-fn put_node(alloc: Global, node: &Node, way: Way, out: &mut Vec<Item>) -> Result<(), OutOfMemory>
+fn put_node(facts: &Facts, node: &Node, way: Way, out: &mut Vec<Item>) -> Result<(), OutOfMemory>
     ensures { OnOk result (entries out.new.items
-        ≡ entries out.old.items ++ said (node_doc node.now) way) }
+        ≡ entries out.old.items ++ said facts.now (node_doc node.now) way) }
 {
     let rule = rule_of(node.kind);
     let _id = node.id;
     let _span = node.span;
+    if is_gone(rule, node) {
+        put_gone(facts.memory(), way, out)
+    } else {
+        put_way(facts, way, rule, node, out)
+    }
+}
+
+/// Puts what the node, which is not erased, does by its rule, read that way.
+#[cycle(word)]
+fn put_way(
+    facts: &Facts,
+    way: Way,
+    rule: Rule,
+    node: &Node,
+    out: &mut Vec<Item>,
+) -> Result<(), OutOfMemory>
+    ensures { OnOk result (entries out.new.items
+        ≡ entries out.old.items ++ way_word facts.now way rule node.now.kind
+        (docs_in node.now.parts.items) (each_field facts.now node.now) (all_fields facts.now node.now)) }
+{
     match way {
-        Way::Target => put_target(alloc, rule, node, out),
-        Way::Bound(binding) => put_bound(alloc, binding, rule, node, out),
-        Way::Entered(pure) => put_entered(alloc, pure, rule, node, out),
-        Way::Opened => put_opened(alloc, rule, node, out),
-        Way::Keyed => put_keyed(alloc, rule, node, out),
-        Way::KeyText => put_key_text(alloc, rule, node, out),
-        Way::Keys => put_keys(alloc, rule, node, out),
-        Way::Statics => put_statics(alloc, rule, node, out),
-        Way::Fields => put_instance_fields(alloc, rule, node, out),
-        Way::Methods => put_methods(alloc, rule, node, out),
-        Way::Constructor => put_constructor(alloc, rule, node, out),
-        _ => put_whole(alloc, rule, node, out),
+        Way::Target => put_target(facts, rule, node, out),
+        Way::Bound(binding, exported) => put_bound(facts, binding, exported, rule, node, out),
+        Way::Exported => put_exported(facts, rule, node, out),
+        Way::Entered(pure) => put_entered(facts, pure, rule, node, out),
+        Way::Opened => put_opened(facts, rule, node, out),
+        Way::PassOn => put_passed(facts, rule, node, out),
+        Way::Keyed => put_keyed(facts, rule, node, out),
+        Way::KeyText => put_key_text(facts, rule, node, out),
+        Way::Keys => put_keys(facts, rule, node, out),
+        Way::Statics => put_statics(facts, rule, node, out),
+        Way::Fields => put_instance_fields(facts, rule, node, out),
+        Way::Methods => put_methods(facts, rule, node, out),
+        Way::Constructor => put_constructor(facts, rule, node, out),
+        _ => put_whole(facts, rule, node, out),
     }
 }
 
 /// Puts what the part does, read that way.
 #[cycle(word)]
-fn put_part(alloc: Global, part: &Part, way: Way, out: &mut Vec<Item>) -> Result<(), OutOfMemory>
+fn put_part(facts: &Facts, part: &Part, way: Way, out: &mut Vec<Item>) -> Result<(), OutOfMemory>
     ensures { OnOk result (entries out.new.items
-        ≡ entries out.old.items ++ said (part_doc part.now) way) }
+        ≡ entries out.old.items ++ said facts.now (part_doc part.now) way) }
 {
     match part {
-        Part::Nothing => put_lone(alloc, Mark::Nil, out),
-        Part::Node(node) => put_node(alloc, node, way, out),
-        Part::List(parts) => put_list(alloc, parts, way, out),
+        Part::Nothing => put_lone(facts.memory(), Mark::Nil, out),
+        Part::Node(node) => put_node(facts, node, way, out),
+        Part::List(parts) => put_list(facts, parts, way, out),
         _ => Ok(()),
     }
 }
 
 /// Puts what the elements of a list do, read that way.
 #[cycle(word)]
-fn put_list(alloc: Global, parts: &[Part], way: Way, out: &mut Vec<Item>) -> Result<(), OutOfMemory>
+fn put_list(facts: &Facts, parts: &[Part], way: Way, out: &mut Vec<Item>) -> Result<(), OutOfMemory>
     ensures { OnOk result (entries out.new.items
-        ≡ entries out.old.items ++ list_word way (each_said (docs_in parts.now)) (turns_said
-        (docs_in parts.now)) (last_said (docs_in parts.now))) }
+        ≡ entries out.old.items ++ list_word way (each_said facts.now (docs_in parts.now)) (turns_said facts.now
+        (docs_in parts.now)) (last_said facts.now (docs_in parts.now))) }
 {
     match way {
-        Way::InTurn => put_turns(alloc, parts, Way::Whole, out),
-        Way::InTurnKeyed => put_turns(alloc, parts, Way::Keyed, out),
-        Way::LastText => put_last(alloc, parts, Way::KeyText, out),
-        _ => put_each(alloc, parts, way, out),
+        Way::InTurn => put_turns(facts, parts, Way::Whole, out),
+        Way::InTurnKeyed => put_turns(facts, parts, Way::Keyed, out),
+        Way::LastText => put_last(facts, parts, Way::KeyText, out),
+        _ => put_each(facts, parts, way, out),
     }
 }
 
 /// Puts what the parts do, one after another, read that way.
 #[cycle(word)]
 #[tactic(auto, using(crate::proofs::Loops::one_more, crate::proofs::Loops::no_more))]
-fn put_each(alloc: Global, parts: &[Part], way: Way, out: &mut Vec<Item>) -> Result<(), OutOfMemory>
+fn put_each(facts: &Facts, parts: &[Part], way: Way, out: &mut Vec<Item>) -> Result<(), OutOfMemory>
     ensures { OnOk result (entries out.new.items
-        ≡ entries out.old.items ++ each_said (docs_in parts.now) way) }
+        ≡ entries out.old.items ++ each_said facts.now (docs_in parts.now) way) }
 {
     for part in parts {
-        put_part(alloc, part, way, out)?;
+        put_part(facts, part, way, out)?;
     }
     Ok(())
 }
@@ -114,72 +141,75 @@ fn put_each(alloc: Global, parts: &[Part], way: Way, out: &mut Vec<Item>) -> Res
 #[cycle(word)]
 #[tactic(auto, using(crate::proofs::Loops::one_turn, crate::proofs::Loops::no_turn))]
 fn put_turns(
-    alloc: Global,
+    facts: &Facts,
     parts: &[Part],
     way: Way,
     out: &mut Vec<Item>,
 ) -> Result<(), OutOfMemory>
     ensures { OnOk result (entries out.new.items
-        ≡ entries out.old.items ++ turns_said (docs_in parts.now) way) }
+        ≡ entries out.old.items ++ turns_said facts.now (docs_in parts.now) way) }
 {
     for (i, part) in parts.iter().enumerate() {
-        put_turn(alloc, part, i + 1 < parts.len(), way, out)?;
+        put_turn(facts, part, i + 1 < parts.len(), way, out)?;
     }
     Ok(())
 }
 
 /// Puts what the part does, which is dropped or else read that way.
 #[cycle(word)]
+#[tactic(auto, using(crate::proofs::Drops::behind))]
 fn put_turn(
-    alloc: Global,
+    facts: &Facts,
     part: &Part,
     is_dropped: bool,
     way: Way,
     out: &mut Vec<Item>,
 ) -> Result<(), OutOfMemory>
     ensures { OnOk result (entries out.new.items
-        ≡ entries out.old.items ++ (if is_dropped then said (part_doc part.now) Way.Whole
-        ++ lone Mark.Eval else said (part_doc part.now) way)) }
+        ≡ entries out.old.items ++ (if is_dropped
+        then dropped (said facts.now (part_doc part.now) Way.Whole)
+        else said facts.now (part_doc part.now) way)) }
 {
     if is_dropped {
-        put_part(alloc, part, Way::Whole, out)?;
-        return put_lone(alloc, Mark::Eval, out);
+        let from = out.len();
+        put_part(facts, part, Way::Whole, out)?;
+        return put_dropped(facts.memory(), from, out);
     }
-    put_part(alloc, part, way, out)
+    put_part(facts, part, way, out)
 }
 
 /// Puts what the last of the parts does, read that way.
 #[cycle(word)]
 #[tactic(auto, using(crate::proofs::Loops::last_of))]
-fn put_last(alloc: Global, parts: &[Part], way: Way, out: &mut Vec<Item>) -> Result<(), OutOfMemory>
+fn put_last(facts: &Facts, parts: &[Part], way: Way, out: &mut Vec<Item>) -> Result<(), OutOfMemory>
     ensures { OnOk result (entries out.new.items
-        ≡ entries out.old.items ++ last_said (docs_in parts.now) way) }
+        ≡ entries out.old.items ++ last_said facts.now (docs_in parts.now) way) }
 {
     let count = parts.len();
     if count == 0 {
         return Ok(());
     }
-    put_part(alloc, &parts[count - 1], way, out)
+    put_part(facts, &parts[count - 1], way, out)
 }
 
 /// Puts what the field of that name does, read that way; an absent part where there is none.
 #[cycle(word)]
 pub(crate) fn put_field(
-    alloc: Global,
+    facts: &Facts,
     node: &Node,
     name: &str,
     way: Way,
     out: &mut Vec<Item>,
 ) -> Result<(), OutOfMemory>
     ensures { OnOk result (entries out.new.items
-        ≡ entries out.old.items ++ each_field node.now name.now way) }
+        ≡ entries out.old.items ++ each_field facts.now node.now name.now way) }
 {
     match place_of(node.kind.rows(), name) {
         Some(place) => match node.parts.get(place) {
-            Some(part) => put_part(alloc, part, way, out),
-            None => put_lone(alloc, Mark::Nil, out),
+            Some(part) => put_part(facts, part, way, out),
+            None => put_lone(facts.memory(), Mark::Nil, out),
         },
-        None => put_lone(alloc, Mark::Nil, out),
+        None => put_lone(facts.memory(), Mark::Nil, out),
     }
 }
 
@@ -187,18 +217,18 @@ pub(crate) fn put_field(
 #[cycle(word)]
 #[tactic(auto, using(crate::proofs::Loops::field_more, crate::proofs::Loops::no_more_rows, crate::proofs::Loops::no_more_parts))]
 pub(crate) fn put_fields(
-    alloc: Global,
+    facts: &Facts,
     rows: &[Row],
     parts: &[Part],
     way: Way,
     out: &mut Vec<Item>,
 ) -> Result<(), OutOfMemory>
     ensures { OnOk result (entries out.new.items
-        ≡ entries out.old.items ++ fields_said (docs_in parts.now) (map row_view rows.now) way) }
+        ≡ entries out.old.items ++ fields_said facts.now (docs_in parts.now) (map row_view rows.now) way) }
 {
     for (i, row) in rows.iter().enumerate() {
         match parts.get(i) {
-            Some(part) => put_row(alloc, row, part, way, out)?,
+            Some(part) => put_row(facts, row, part, way, out)?,
             None => return Ok(()),
         }
     }
@@ -208,18 +238,18 @@ pub(crate) fn put_fields(
 /// Puts what a field does, read that way, if its nodes are read.
 #[cycle(word)]
 fn put_row(
-    alloc: Global,
+    facts: &Facts,
     row: &Row,
     part: &Part,
     way: Way,
     out: &mut Vec<Item>,
 ) -> Result<(), OutOfMemory>
     ensures { OnOk result (entries out.new.items
-        ≡ entries out.old.items ++ (if is_read (row_view row.now) then said (part_doc part.now) way
+        ≡ entries out.old.items ++ (if is_read (row_view row.now) then said facts.now (part_doc part.now) way
         else [])) }
 {
     if is_read(row) {
-        return put_part(alloc, part, way, out);
+        return put_part(facts, part, way, out);
     }
     Ok(())
 }
@@ -227,88 +257,99 @@ fn put_row(
 /// Puts a node by the general rule, its fields read that way.
 #[cycle(word)]
 pub(crate) fn put_plain(
-    alloc: Global,
+    facts: &Facts,
     node: &Node,
     way: Way,
     out: &mut Vec<Item>,
 ) -> Result<(), OutOfMemory>
     ensures { OnOk result (entries out.new.items
         ≡ entries out.old.items ++ opened node.now.kind (docs_in node.now.parts.items)
-        (all_fields node.now way)) }
+        (all_fields facts.now node.now way)) }
 {
-    put_open(alloc, node, out)?;
-    put_fields(alloc, node.kind.rows(), &node.parts, way, out)?;
-    put_lone(alloc, Mark::Close, out)
+    put_open(facts.memory(), node, out)?;
+    put_fields(facts, node.kind.rows(), &node.parts, way, out)?;
+    put_lone(facts.memory(), Mark::Close, out)
 }
 
 /// Puts what the node does, by its rule.
 #[cycle(word)]
 pub(crate) fn put_whole(
-    alloc: Global,
+    facts: &Facts,
     rule: Rule,
     node: &Node,
     out: &mut Vec<Item>,
 ) -> Result<(), OutOfMemory>
     ensures { OnOk result (entries out.new.items
-        ≡ entries out.old.items ++ whole_word rule node.now.kind (docs_in node.now.parts.items)
-        (each_field node.now) (all_fields node.now)) }
+        ≡ entries out.old.items ++ whole_word facts.now rule node.now.kind (docs_in node.now.parts.items)
+        (each_field facts.now node.now) (all_fields facts.now node.now)) }
 {
     match rule {
-        Rule::Bare => put_fields(alloc, node.kind.rows(), &node.parts, Way::Whole, out),
-        Rule::Program => put_program(alloc, node, out),
-        Rule::Parameters => put_fields(alloc, node.kind.rows(), &node.parts, Way::Whole, out),
-        Rule::Transparent => put_field(alloc, node, "expression", Way::Whole, out),
+        Rule::Bare => put_fields(facts, node.kind.rows(), &node.parts, Way::Whole, out),
+        Rule::Program => put_program(facts, node, out),
+        Rule::Parameters => put_fields(facts, node.kind.rows(), &node.parts, Way::Whole, out),
+        Rule::Transparent => put_field(facts, node, "expression", Way::Whole, out),
         Rule::Erased => Ok(()),
-        Rule::Spelled(mark) => put_first(alloc, mark, node, out),
-        Rule::Literal(mark) => put_first(alloc, mark, node, out),
-        Rule::This => put_lone(alloc, Mark::This, out),
-        Rule::Number => put_number(alloc, node, out),
-        Rule::StaticMember => put_get(alloc, node, "property", Way::KeyText, out),
-        Rule::ComputedMember => put_get(alloc, node, "expression", Way::Whole, out),
-        Rule::Assignment => put_assignment(alloc, node, out),
-        Rule::Statement => put_statement(alloc, node, out),
-        Rule::Sequence => put_sequence(alloc, node, out),
-        Rule::Arrow => put_arrow(alloc, node, out),
-        Rule::Call => put_call(alloc, node, out),
-        Rule::Object => put_object(alloc, node, out),
-        Rule::Logical => put_logical(alloc, node, out),
-        Rule::Variables => put_variables(alloc, node, out),
-        Rule::FunctionDeclaration => put_function(alloc, node, out),
-        Rule::FunctionExpression => put_plain(alloc, node, Way::Bound(Binding::Inner), out),
-        Rule::Parameter => put_plain(alloc, node, Way::Bound(Binding::Parameter), out),
-        Rule::Binds(binding) => put_plain(alloc, node, Way::Bound(binding), out),
-        Rule::ClassDeclaration => put_class(alloc, node, out),
-        Rule::ClassExpression => put_class_expression(alloc, node, out),
-        _ => put_plain(alloc, node, Way::Whole, out),
+        Rule::Name => put_name(facts, node, out),
+        Rule::Spelled(mark) => put_first(facts.memory(), mark, node, out),
+        Rule::Literal(mark) => put_first(facts.memory(), mark, node, out),
+        Rule::This => put_lone(facts.memory(), Mark::This, out),
+        Rule::Number => put_number(facts.memory(), node, out),
+        Rule::StaticMember => put_get(facts, node, "property", Way::KeyText, out),
+        Rule::ComputedMember => put_get(facts, node, "expression", Way::Whole, out),
+        Rule::Assignment => put_assignment(facts, node, out),
+        Rule::Statement => put_statement(facts, node, out),
+        Rule::Sequence => put_sequence(facts, node, out),
+        Rule::Arrow => put_arrow(facts, node, out),
+        Rule::Call => put_call(facts, node, out),
+        Rule::Object => put_object(facts, node, out),
+        Rule::Logical => put_logical(facts, node, out),
+        Rule::Variables => put_variables(facts, false, node, out),
+        Rule::FunctionDeclaration => put_function(facts, false, node, out),
+        Rule::FunctionExpression => put_plain(facts, node, Way::Bound(Binding::Inner, false), out),
+        Rule::Parameter => put_plain(facts, node, Way::Bound(Binding::Parameter, false), out),
+        Rule::Binds(binding) => put_plain(facts, node, Way::Bound(binding, false), out),
+        Rule::ClassDeclaration => put_class(facts, false, node, out),
+        Rule::ClassExpression => put_class_expression(facts, node, out),
+        Rule::If => put_if(facts, node, out),
+        Rule::Loop => put_plain(facts, node, Way::Branch, out),
+        Rule::Import => put_import(facts, node, out),
+        Rule::Export => put_field(facts, node, "declaration", Way::Exported, out),
+        Rule::ExportList => put_export_list(facts, node, out),
+        _ => put_plain(facts, node, Way::Whole, out),
     }
 }
 
-/// Puts a program: its first line for the system, and its fields.
+/// Puts a program: its first line for the system, and its fields. That of a definition file does nothing.
 #[cycle(word)]
-fn put_program(alloc: Global, node: &Node, out: &mut Vec<Item>) -> Result<(), OutOfMemory>
+fn put_program(facts: &Facts, node: &Node, out: &mut Vec<Item>) -> Result<(), OutOfMemory>
     ensures { OnOk result (entries out.new.items
-        ≡ entries out.old.items ++ whole_word Rule.Program node.now.kind
-        (docs_in node.now.parts.items) (each_field node.now) (all_fields node.now)) }
+        ≡ entries out.old.items ++ whole_word facts.now Rule.Program node.now.kind
+        (docs_in node.now.parts.items) (each_field facts.now node.now) (all_fields facts.now node.now)) }
 {
-    put_hash(alloc, node, out)?;
-    put_fields(alloc, node.kind.rows(), &node.parts, Way::Whole, out)
+    if facts.is_source() && node.holds_text("lang", "dts") {
+        return Ok(());
+    }
+    put_hash(facts.memory(), node, out)?;
+    put_fields(facts, node.kind.rows(), &node.parts, Way::Whole, out)
 }
 
 /// Puts a statement that drops a value.
 #[cycle(word)]
-fn put_statement(alloc: Global, node: &Node, out: &mut Vec<Item>) -> Result<(), OutOfMemory>
+#[tactic(auto, using(crate::proofs::Drops::behind))]
+fn put_statement(facts: &Facts, node: &Node, out: &mut Vec<Item>) -> Result<(), OutOfMemory>
     ensures { OnOk result (entries out.new.items
-        ≡ entries out.old.items ++ whole_word Rule.Statement node.now.kind
-        (docs_in node.now.parts.items) (each_field node.now) (all_fields node.now)) }
+        ≡ entries out.old.items ++ whole_word facts.now Rule.Statement node.now.kind
+        (docs_in node.now.parts.items) (each_field facts.now node.now) (all_fields facts.now node.now)) }
 {
-    put_field(alloc, node, "expression", Way::Whole, out)?;
-    put_lone(alloc, Mark::Eval, out)
+    let from = out.len();
+    put_field(facts, node, "expression", Way::Whole, out)?;
+    put_dropped(facts.memory(), from, out)
 }
 
 /// Puts the read of a member, whose key stands in the field of that name.
 #[cycle(word)]
 fn put_get(
-    alloc: Global,
+    facts: &Facts,
     node: &Node,
     key: &str,
     way: Way,
@@ -316,260 +357,363 @@ fn put_get(
 ) -> Result<(), OutOfMemory>
     ensures { OnOk result (entries out.new.items
         ≡ entries out.old.items ++ get_word key.now way node.now.kind (docs_in node.now.parts.items)
-        (each_field node.now)) }
+        (each_field facts.now node.now)) }
 {
-    put_field(alloc, node, "object", Way::Whole, out)?;
-    put_field(alloc, node, key, way, out)?;
-    put_spelled(alloc, Mark::Get, Atom::Flag(node.flag("optional")), out)
-}
-
-/// Puts an assignment.
-#[cycle(word)]
-fn put_assignment(alloc: Global, node: &Node, out: &mut Vec<Item>) -> Result<(), OutOfMemory>
-    ensures { OnOk result (entries out.new.items
-        ≡ entries out.old.items ++ assignment_word node.now.kind (docs_in node.now.parts.items)
-        (each_field node.now) (all_fields node.now)) }
-{
-    if is_put(node) {
-        put_field(alloc, node, "left", Way::Target, out)?;
-        put_field(alloc, node, "right", Way::Whole, out)?;
-        return put_lone(alloc, Mark::Put, out);
-    }
-    put_plain(alloc, node, Way::Whole, out)
-}
-
-/// Puts a sequence.
-#[cycle(word)]
-fn put_sequence(alloc: Global, node: &Node, out: &mut Vec<Item>) -> Result<(), OutOfMemory>
-    ensures { OnOk result (entries out.new.items
-        ≡ entries out.old.items ++ sequence_word node.now.kind (docs_in node.now.parts.items)
-        (each_field node.now) (all_fields node.now)) }
-{
-    if is_long(node) {
-        return put_field(alloc, node, "expressions", Way::InTurn, out);
-    }
-    put_plain(alloc, node, Way::Whole, out)
-}
-
-/// Puts an arrow function.
-#[cycle(word)]
-fn put_arrow(alloc: Global, node: &Node, out: &mut Vec<Item>) -> Result<(), OutOfMemory>
-    ensures { OnOk result (entries out.new.items
-        ≡ entries out.old.items ++ arrow_word node.now.kind (docs_in node.now.parts.items)
-        (each_field node.now)) }
-{
-    put_open(alloc, node, out)?;
-    put_field(alloc, node, "params", Way::Whole, out)?;
-    put_body(alloc, node, out)?;
-    put_lone(alloc, Mark::Close, out)
-}
-
-/// Puts the body of an arrow function; an expression is returned.
-#[cycle(word)]
-fn put_body(alloc: Global, node: &Node, out: &mut Vec<Item>) -> Result<(), OutOfMemory>
-    ensures { OnOk result (entries out.new.items
-        ≡ entries out.old.items ++ body_word node.now.kind (docs_in node.now.parts.items)
-        (each_field node.now)) }
-{
-    if node.holds_kind("body", Kind::FunctionBody) {
-        return put_field(alloc, node, "body", Way::Whole, out);
-    }
-    put_start(Kind::ReturnStatement, Vec::new(alloc), out)?;
-    put_field(alloc, node, "body", Way::Whole, out)?;
-    put_lone(alloc, Mark::Close, out)
-}
-
-/// Puts a call.
-#[cycle(word)]
-fn put_call(alloc: Global, node: &Node, out: &mut Vec<Item>) -> Result<(), OutOfMemory>
-    ensures { OnOk result (entries out.new.items
-        ≡ entries out.old.items ++ call_word node.now.kind (docs_in node.now.parts.items)
-        (each_field node.now) (all_fields node.now)) }
-{
-    if is_called(node) {
-        put_field(alloc, node, "arguments", Way::Whole, out)?;
-        return put_field(alloc, node, "callee", Way::Entered(node.flag("pure")), out);
-    }
-    put_plain(alloc, node, Way::Whole, out)
-}
-
-/// Puts an object.
-#[cycle(word)]
-fn put_object(alloc: Global, node: &Node, out: &mut Vec<Item>) -> Result<(), OutOfMemory>
-    ensures { OnOk result (entries out.new.items
-        ≡ entries out.old.items ++ object_word node.now.kind (docs_in node.now.parts.items)
-        (all_fields node.now)) }
-{
-    if lists_nothing(node, "properties") {
-        return put_lone(alloc, Mark::New, out);
-    }
-    put_plain(alloc, node, Way::Whole, out)
-}
-
-/// Puts an expression such as `a || b`.
-#[cycle(word)]
-fn put_logical(alloc: Global, node: &Node, out: &mut Vec<Item>) -> Result<(), OutOfMemory>
-    ensures { OnOk result (entries out.new.items
-        ≡ entries out.old.items ++ logical_word node.now.kind (docs_in node.now.parts.items)
-        (each_field node.now) (all_fields node.now)) }
-{
-    if is_found(node) {
-        put_field(alloc, node, "left", Way::Whole, out)?;
-        return put_lone(alloc, Mark::Found, out);
-    }
-    if is_found_made(node) {
-        put_field(alloc, node, "left", Way::Whole, out)?;
-        return put_lone(alloc, Mark::FoundMade, out);
-    }
-    put_plain(alloc, node, Way::Whole, out)
-}
-
-/// Puts a declaration of variables.
-#[cycle(word)]
-fn put_variables(alloc: Global, node: &Node, out: &mut Vec<Item>) -> Result<(), OutOfMemory>
-    ensures { OnOk result (entries out.new.items
-        ≡ entries out.old.items ++ variables_word node.now.kind (docs_in node.now.parts.items)
-        (each_field node.now) (all_fields node.now)) }
-{
-    if node.flag("declare") {
-        return Ok(());
-    }
-    if lists_nothing(node, "declarations") {
-        return put_plain(alloc, node, Way::Whole, out);
-    }
-    put_field(
-        alloc,
-        node,
-        "declarations",
-        Way::Bound(binding_of(node)),
+    put_field(facts, node, "object", Way::Whole, out)?;
+    put_field(facts, node, key, way, out)?;
+    put_spelled(
+        facts.memory(),
+        Mark::Get,
+        Atom::Flag(node.flag("optional")),
         out,
     )
 }
 
-/// Puts a declarator: its value, which is set, and its pattern.
+/// Puts an assignment.
 #[cycle(word)]
-fn put_declarator(
-    alloc: Global,
-    binding: Binding,
+fn put_assignment(facts: &Facts, node: &Node, out: &mut Vec<Item>) -> Result<(), OutOfMemory>
+    ensures { OnOk result (entries out.new.items
+        ≡ entries out.old.items ++ assignment_word facts.now node.now.kind (docs_in node.now.parts.items)
+        (each_field facts.now node.now) (all_fields facts.now node.now)) }
+{
+    if is_keep(facts, node) {
+        put_field(facts, node, "right", Way::Whole, out)?;
+        return put_spelled(facts.memory(), Mark::Keep, target_atom(node)?, out);
+    }
+    if is_put(node) {
+        put_field(facts, node, "left", Way::Target, out)?;
+        put_field(facts, node, "right", Way::Whole, out)?;
+        return put_lone(facts.memory(), Mark::Put, out);
+    }
+    put_plain(facts, node, Way::Whole, out)
+}
+
+/// Puts a sequence.
+#[cycle(word)]
+fn put_sequence(facts: &Facts, node: &Node, out: &mut Vec<Item>) -> Result<(), OutOfMemory>
+    ensures { OnOk result (entries out.new.items
+        ≡ entries out.old.items ++ sequence_word node.now.kind (docs_in node.now.parts.items)
+        (each_field facts.now node.now) (all_fields facts.now node.now)) }
+{
+    if is_long(node) {
+        return put_field(facts, node, "expressions", Way::InTurn, out);
+    }
+    put_plain(facts, node, Way::Whole, out)
+}
+
+/// Puts an arrow function.
+#[cycle(word)]
+fn put_arrow(facts: &Facts, node: &Node, out: &mut Vec<Item>) -> Result<(), OutOfMemory>
+    ensures { OnOk result (entries out.new.items
+        ≡ entries out.old.items ++ arrow_word node.now.kind (docs_in node.now.parts.items)
+        (each_field facts.now node.now)) }
+{
+    put_open(facts.memory(), node, out)?;
+    put_field(facts, node, "params", Way::Whole, out)?;
+    put_body(facts, node, out)?;
+    put_lone(facts.memory(), Mark::Close, out)
+}
+
+/// Puts the body of an arrow function; an expression is returned.
+#[cycle(word)]
+fn put_body(facts: &Facts, node: &Node, out: &mut Vec<Item>) -> Result<(), OutOfMemory>
+    ensures { OnOk result (entries out.new.items
+        ≡ entries out.old.items ++ body_word node.now.kind (docs_in node.now.parts.items)
+        (each_field facts.now node.now)) }
+{
+    if node.holds_kind("body", Kind::FunctionBody) {
+        return put_field(facts, node, "body", Way::Whole, out);
+    }
+    put_start(Kind::ReturnStatement, Vec::new(facts.memory()), out)?;
+    put_field(facts, node, "body", Way::Whole, out)?;
+    put_lone(facts.memory(), Mark::Close, out)
+}
+
+/// Puts a call.
+#[cycle(word)]
+fn put_call(facts: &Facts, node: &Node, out: &mut Vec<Item>) -> Result<(), OutOfMemory>
+    ensures { OnOk result (entries out.new.items
+        ≡ entries out.old.items ++ call_word node.now.kind (docs_in node.now.parts.items)
+        (each_field facts.now node.now) (all_fields facts.now node.now)) }
+{
+    if is_called(node) {
+        put_field(facts, node, "arguments", Way::Whole, out)?;
+        return put_field(facts, node, "callee", Way::Entered(node.flag("pure")), out);
+    }
+    put_plain(facts, node, Way::Whole, out)
+}
+
+/// Puts an object.
+#[cycle(word)]
+fn put_object(facts: &Facts, node: &Node, out: &mut Vec<Item>) -> Result<(), OutOfMemory>
+    ensures { OnOk result (entries out.new.items
+        ≡ entries out.old.items ++ object_word node.now.kind (docs_in node.now.parts.items)
+        (all_fields facts.now node.now)) }
+{
+    if lists_nothing(node, "properties") {
+        return put_lone(facts.memory(), Mark::New, out);
+    }
+    put_plain(facts, node, Way::Whole, out)
+}
+
+/// Puts an expression such as `a || b`.
+#[cycle(word)]
+fn put_logical(facts: &Facts, node: &Node, out: &mut Vec<Item>) -> Result<(), OutOfMemory>
+    ensures { OnOk result (entries out.new.items
+        ≡ entries out.old.items ++ logical_word facts.now node.now.kind (docs_in node.now.parts.items)
+        (each_field facts.now node.now) (all_fields facts.now node.now)) }
+{
+    if is_found(node) {
+        put_field(facts, node, "left", Way::Whole, out)?;
+        return put_lone(facts.memory(), Mark::Found, out);
+    }
+    if is_found_made(node) {
+        put_field(facts, node, "left", Way::Whole, out)?;
+        return put_lone(facts.memory(), Mark::FoundMade, out);
+    }
+    if is_found_made_on(facts, node) {
+        put_field(facts, node, "left", Way::Whole, out)?;
+        put_base(facts.memory(), node, out)?;
+        return put_lone(facts.memory(), Mark::FoundMadeOn, out);
+    }
+    put_plain(facts, node, Way::Whole, out)
+}
+
+/// Puts a declaration of variables, which is exported or not.
+#[cycle(word)]
+fn put_variables(
+    facts: &Facts,
+    exported: bool,
     node: &Node,
     out: &mut Vec<Item>,
 ) -> Result<(), OutOfMemory>
     ensures { OnOk result (entries out.new.items
-        ≡ entries out.old.items ++ declarator_word binding node.now.kind
-        (docs_in node.now.parts.items) (each_field node.now)) }
+        ≡ entries out.old.items ++ variables_word exported node.now.kind (docs_in node.now.parts.items)
+        (each_field facts.now node.now) (all_fields facts.now node.now)) }
 {
-    if node.lacks("init") {
-        return put_field(alloc, node, "id", Way::Bound(binding), out);
+    if lists_nothing(node, "declarations") {
+        return put_plain(facts, node, Way::Whole, out);
     }
-    put_field(alloc, node, "init", Way::Whole, out)?;
-    put_lone(alloc, Mark::Set, out)?;
-    put_field(alloc, node, "id", Way::Bound(binding), out)
+    let way = Way::Bound(binding_of(node), exported);
+    put_field(facts, node, "declarations", way, out)
 }
 
-/// Puts a declaration of a function, and then its name.
+/// Puts a declarator: its value, which is set, and its pattern; nothing if a made name is declared without a
+/// value.
 #[cycle(word)]
-fn put_function(alloc: Global, node: &Node, out: &mut Vec<Item>) -> Result<(), OutOfMemory>
+fn put_declarator(
+    facts: &Facts,
+    binding: Binding,
+    exported: bool,
+    node: &Node,
+    out: &mut Vec<Item>,
+) -> Result<(), OutOfMemory>
     ensures { OnOk result (entries out.new.items
-        ≡ entries out.old.items ++ function_word node.now.kind (docs_in node.now.parts.items)
-        (each_field node.now)) }
+        ≡ entries out.old.items ++ declarator_word facts.now binding exported node.now.kind
+        (docs_in node.now.parts.items) (each_field facts.now node.now)) }
 {
-    put_open(alloc, node, out)?;
-    put_field(alloc, node, "params", Way::Whole, out)?;
-    put_field(alloc, node, "body", Way::Whole, out)?;
-    put_lone(alloc, Mark::Close, out)?;
-    put_field(alloc, node, "id", Way::Bound(Binding::Function), out)
+    if is_silent(facts, node) {
+        return Ok(());
+    }
+    if node.lacks("init") {
+        return put_field(facts, node, "id", Way::Bound(binding, exported), out);
+    }
+    put_field(facts, node, "init", Way::Whole, out)?;
+    put_lone(facts.memory(), Mark::Set, out)?;
+    put_field(facts, node, "id", Way::Bound(binding, exported), out)
 }
 
-/// Puts a target: the object and the key of a member.
+/// Puts a declaration of a function, and then its name, which is exported or not.
 #[cycle(word)]
-fn put_target(
-    alloc: Global,
+fn put_function(
+    facts: &Facts,
+    exported: bool,
+    node: &Node,
+    out: &mut Vec<Item>,
+) -> Result<(), OutOfMemory>
+    ensures { OnOk result (entries out.new.items
+        ≡ entries out.old.items ++ function_word exported node.now.kind (docs_in node.now.parts.items)
+        (each_field facts.now node.now)) }
+{
+    put_open(facts.memory(), node, out)?;
+    put_field(facts, node, "params", Way::Whole, out)?;
+    put_field(facts, node, "body", Way::Whole, out)?;
+    put_lone(facts.memory(), Mark::Close, out)?;
+    put_field(
+        facts,
+        node,
+        "id",
+        Way::Bound(Binding::Function, exported),
+        out,
+    )
+}
+
+/// Puts a choice between statements.
+#[cycle(word)]
+fn put_if(facts: &Facts, node: &Node, out: &mut Vec<Item>) -> Result<(), OutOfMemory>
+    ensures { OnOk result (entries out.new.items
+        ≡ entries out.old.items ++ if_word node.now.kind (docs_in node.now.parts.items)
+        (each_field facts.now node.now)) }
+{
+    put_open(facts.memory(), node, out)?;
+    put_field(facts, node, "test", Way::Whole, out)?;
+    put_field(facts, node, "consequent", Way::Branch, out)?;
+    put_field(facts, node, "alternate", Way::Alternate, out)?;
+    put_lone(facts.memory(), Mark::Close, out)
+}
+
+/// Puts an import.
+#[cycle(word)]
+fn put_import(facts: &Facts, node: &Node, out: &mut Vec<Item>) -> Result<(), OutOfMemory>
+    ensures { OnOk result (entries out.new.items
+        ≡ entries out.old.items ++ import_word node.now.kind (docs_in node.now.parts.items)
+        (each_field facts.now node.now) (all_fields facts.now node.now)) }
+{
+    if lists_nothing(node, "specifiers") {
+        return put_bare_import(facts, node, out);
+    }
+    put_plain(facts, node, Way::Whole, out)
+}
+
+/// Puts an import of an empty list, as one without a list.
+#[cycle(word)]
+fn put_bare_import(facts: &Facts, node: &Node, out: &mut Vec<Item>) -> Result<(), OutOfMemory>
+    ensures { OnOk result (entries out.new.items
+        ≡ entries out.old.items ++ opened node.now.kind (docs_in node.now.parts.items)
+        (lone Mark.Nil ++ (each_field facts.now node.now (codes "source") Way.Whole
+        ++ each_field facts.now node.now (codes "withClause") Way.Whole))) }
+{
+    put_open(facts.memory(), node, out)?;
+    put_lone(facts.memory(), Mark::Nil, out)?;
+    put_field(facts, node, "source", Way::Whole, out)?;
+    put_field(facts, node, "withClause", Way::Whole, out)?;
+    put_lone(facts.memory(), Mark::Close, out)
+}
+
+/// Puts an export of a list of names.
+#[cycle(word)]
+fn put_export_list(facts: &Facts, node: &Node, out: &mut Vec<Item>) -> Result<(), OutOfMemory>
+    ensures { OnOk result (entries out.new.items
+        ≡ entries out.old.items ++ export_list_word node.now.kind (docs_in node.now.parts.items)
+        (all_fields facts.now node.now)) }
+{
+    if lists_nothing(node, "specifiers") {
+        return Ok(());
+    }
+    put_plain(facts, node, Way::Whole, out)
+}
+
+/// Puts a declaration that is exported.
+#[cycle(word)]
+fn put_exported(
+    facts: &Facts,
     rule: Rule,
     node: &Node,
     out: &mut Vec<Item>,
 ) -> Result<(), OutOfMemory>
     ensures { OnOk result (entries out.new.items
-        ≡ entries out.old.items ++ target_word rule node.now.kind (docs_in node.now.parts.items)
-        (each_field node.now) (all_fields node.now)) }
+        ≡ entries out.old.items ++ exported_word facts.now rule node.now.kind (docs_in node.now.parts.items)
+        (each_field facts.now node.now) (all_fields facts.now node.now)) }
 {
     match rule {
-        Rule::Transparent => put_field(alloc, node, "expression", Way::Target, out),
-        Rule::StaticMember => put_key(alloc, node, "property", Way::KeyText, out),
-        Rule::ComputedMember => put_key(alloc, node, "expression", Way::Whole, out),
-        Rule::PrivateMember => put_key(alloc, node, "field", Way::Whole, out),
-        _ => put_whole(alloc, rule, node, out),
+        Rule::Variables => put_variables(facts, true, node, out),
+        Rule::FunctionDeclaration => put_function(facts, true, node, out),
+        Rule::ClassDeclaration => put_class(facts, true, node, out),
+        _ => put_whole(facts, rule, node, out),
+    }
+}
+
+/// Puts a target: the object and the key of a member.
+#[cycle(word)]
+fn put_target(
+    facts: &Facts,
+    rule: Rule,
+    node: &Node,
+    out: &mut Vec<Item>,
+) -> Result<(), OutOfMemory>
+    ensures { OnOk result (entries out.new.items
+        ≡ entries out.old.items ++ target_word facts.now rule node.now.kind (docs_in node.now.parts.items)
+        (each_field facts.now node.now) (all_fields facts.now node.now)) }
+{
+    match rule {
+        Rule::Transparent => put_field(facts, node, "expression", Way::Target, out),
+        Rule::StaticMember => put_key(facts, node, "property", Way::KeyText, out),
+        Rule::ComputedMember => put_key(facts, node, "expression", Way::Whole, out),
+        Rule::PrivateMember => put_key(facts, node, "field", Way::Whole, out),
+        _ => put_whole(facts, rule, node, out),
     }
 }
 
 /// Puts the object of a member and its key, which stands in the field of that name.
 #[cycle(word)]
 fn put_key(
-    alloc: Global,
+    facts: &Facts,
     node: &Node,
     key: &str,
     way: Way,
     out: &mut Vec<Item>,
 ) -> Result<(), OutOfMemory>
     ensures { OnOk result (entries out.new.items
-        ≡ entries out.old.items ++ (each_field node.now (codes "object") Way.Whole
-        ++ each_field node.now key.now way)) }
+        ≡ entries out.old.items ++ (each_field facts.now node.now (codes "object") Way.Whole
+        ++ each_field facts.now node.now key.now way)) }
 {
-    put_field(alloc, node, "object", Way::Whole, out)?;
-    put_field(alloc, node, key, way, out)
+    put_field(facts, node, "object", Way::Whole, out)?;
+    put_field(facts, node, key, way, out)
 }
 
-/// Puts a pattern or a declarator, whose names are bound as that.
+/// Puts a pattern or a declarator, whose names are bound as that, and exported or not.
 #[cycle(word)]
 fn put_bound(
-    alloc: Global,
+    facts: &Facts,
     binding: Binding,
+    exported: bool,
     rule: Rule,
     node: &Node,
     out: &mut Vec<Item>,
 ) -> Result<(), OutOfMemory>
     ensures { OnOk result (entries out.new.items
-        ≡ entries out.old.items ++ bound_word binding rule node.now.kind
-        (docs_in node.now.parts.items) (each_field node.now) (all_fields node.now)) }
+        ≡ entries out.old.items ++ bound_word facts.now binding exported rule node.now.kind
+        (docs_in node.now.parts.items) (each_field facts.now node.now) (all_fields facts.now node.now)) }
 {
     match rule {
-        Rule::Identifier => put_bind(alloc, binding, node, out),
-        Rule::Pattern => put_plain(alloc, node, Way::Bound(binding), out),
-        Rule::Declarator => put_declarator(alloc, binding, node, out),
-        _ => put_whole(alloc, rule, node, out),
+        Rule::Identifier => put_bind(facts, binding, exported, node, out),
+        Rule::Pattern => put_plain(facts, node, Way::Bound(binding, exported), out),
+        Rule::Declarator => put_declarator(facts, binding, exported, node, out),
+        _ => put_whole(facts, rule, node, out),
     }
 }
 
 /// Puts a function that is called where it stands, by a call with that pure flag.
 #[cycle(word)]
 fn put_entered(
-    alloc: Global,
+    facts: &Facts,
     pure: bool,
     rule: Rule,
     node: &Node,
     out: &mut Vec<Item>,
 ) -> Result<(), OutOfMemory>
     ensures { OnOk result (entries out.new.items
-        ≡ entries out.old.items ++ entered_word pure rule node.now.kind
-        (docs_in node.now.parts.items) (each_field node.now) (all_fields node.now)) }
+        ≡ entries out.old.items ++ entered_word facts.now pure rule node.now.kind
+        (docs_in node.now.parts.items) (each_field facts.now node.now) (all_fields facts.now node.now)) }
 {
     match rule {
-        Rule::Transparent => put_field(alloc, node, "expression", Way::Entered(pure), out),
-        Rule::FunctionExpression => put_entry(alloc, pure, node, out),
-        Rule::Parameters => put_field(alloc, node, "items", Way::Entered(pure), out),
-        Rule::Parameter => put_field(alloc, node, "pattern", Way::Entered(pure), out),
-        Rule::Identifier => put_in(alloc, pure, node, out),
-        _ => put_whole(alloc, rule, node, out),
+        Rule::Transparent => put_field(facts, node, "expression", Way::Entered(pure), out),
+        Rule::FunctionExpression => put_entry(facts, pure, node, out),
+        Rule::Parameters => put_field(facts, node, "items", Way::Entered(pure), out),
+        Rule::Parameter => put_field(facts, node, "pattern", Way::Entered(pure), out),
+        Rule::Identifier => put_in(facts, pure, node, out),
+        _ => put_whole(facts, rule, node, out),
     }
 }
 
 /// Puts the entry into a function, its body and its end.
 #[cycle(word)]
-fn put_entry(alloc: Global, pure: bool, node: &Node, out: &mut Vec<Item>) -> Result<(), OutOfMemory>
+fn put_entry(facts: &Facts, pure: bool, node: &Node, out: &mut Vec<Item>) -> Result<(), OutOfMemory>
     ensures { OnOk result (entries out.new.items
-        ≡ entries out.old.items ++ entered_word pure Rule.FunctionExpression node.now.kind
-        (docs_in node.now.parts.items) (each_field node.now) (all_fields node.now)) }
+        ≡ entries out.old.items ++ entered_word facts.now pure Rule.FunctionExpression node.now.kind
+        (docs_in node.now.parts.items) (each_field facts.now node.now) (all_fields facts.now node.now)) }
 {
-    put_field(alloc, node, "params", Way::Entered(pure), out)?;
-    put_field(alloc, node, "body", Way::Whole, out)?;
-    put_lone(alloc, Mark::Out, out)
+    put_field(facts, node, "params", Way::Entered(pure), out)?;
+    put_field(facts, node, "body", Way::Whole, out)?;
+    put_lone(facts.memory(), Mark::Out, out)
 }

@@ -9,6 +9,7 @@ use Rattle.oxt_json.specs.Spelling.{no_value, reading, tree, wrong}
 use Rattle.oxt_json.specs.declared.read.ReadFault.{ReadFault}
 use Rattle.oxt_tree.specs.Doc.{Doc}
 use Rattle.oxt_tree.specs.Names.{name_bytes}
+use Rattle.oxt_forms.specs.Facts.{of_source}
 use Rattle.oxt_word.specs.Word.{word}
 use Rattle.oxt_word_lines.specs.Lines.{lines}
 use Rattle.oxt_word_lines.specs.declared.fault.Fault.{Fault}
@@ -25,7 +26,7 @@ pub record Shown (left left' taken taken' : Option (List ℕ)) : Type 0 where
   pub next : ℕ
   pub gave : GaveAll left left' bytes
   pub spelled : reading bytes ≡ tree source next
-  pub wrote : Appends taken taken' (lines (word source))
+  pub wrote : Appends taken taken' (lines (word of_source source))
 
 -- The source's bytes spell no tree, and the fault says where.
 pub record NoTree (left left' : Option (List ℕ)) (f : ReadFault) : Type 0 where

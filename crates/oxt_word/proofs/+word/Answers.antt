@@ -5,21 +5,21 @@ use Rattle.oxt_word.proofs.+word.Goals as goal
 
 pub word::put_field-returns-in-Some-get : goal.word::put_field-returns-in-Some-get
 word::put_field-returns-in-Some-get t c =
-    let same = field_some c.args.name.now c.args.node.now.kind c.rows.result.now c.args.node.now.parts.items c.deref.result.now c.in-Some.place c.in-Some-get.part.now c.args.way c.rows.ensures (sym c.in-Some.is ∙ c.place_of.ensures) c.deref.ensures.value c.in-Some-get.ensures.lookup.3.0 c.in-Some-get.ensures.lookup.1 in
+    let same = field_some c.args.facts.now c.args.name.now c.args.node.now.kind c.rows.result.now c.args.node.now.parts.items c.deref.result.now c.in-Some.place c.in-Some-get.part.now c.args.way c.rows.ensures (sym c.in-Some.is ∙ c.place_of.ensures) c.deref.ensures.value c.in-Some-get.ensures.lookup.3.0 c.in-Some-get.ensures.lookup.1 in
     subst (λ v. OnOk c.put_part.result (entries c.put_part.new.out.items ≡ entries c.args.out.now.items ++ v)) same c.put_part.ensures
 
 pub word::put_field-returns-in-None-get : goal.word::put_field-returns-in-None-get
 word::put_field-returns-in-None-get t c =
-    let same = field_past c.args.name.now c.args.node.now.kind c.rows.result.now c.args.node.now.parts.items c.deref.result.now c.in-Some.place c.args.way c.rows.ensures (sym c.in-Some.is ∙ c.place_of.ensures) c.deref.ensures.value c.in-None-get.ensures.lookup.3 in
+    let same = field_past c.args.facts.now c.args.name.now c.args.node.now.kind c.rows.result.now c.args.node.now.parts.items c.deref.result.now c.in-Some.place c.args.way c.rows.ensures (sym c.in-Some.is ∙ c.place_of.ensures) c.deref.ensures.value c.in-None-get.ensures.lookup.3 in
     subst (λ v. OnOk c.put_lone.result (entries c.put_lone.new.out.items ≡ entries c.args.out.now.items ++ v)) same c.put_lone.ensures
 
 pub word::put_field-returns-in-None : goal.word::put_field-returns-in-None
 word::put_field-returns-in-None t c =
-    let same = field_none c.args.name.now c.args.node.now.kind c.rows.result.now c.args.node.now.parts.items c.args.way c.rows.ensures (sym c.in-None.is ∙ c.place_of.ensures) in
+    let same = field_none c.args.facts.now c.args.name.now c.args.node.now.kind c.rows.result.now c.args.node.now.parts.items c.args.way c.rows.ensures (sym c.in-None.is ∙ c.place_of.ensures) in
     subst (λ v. OnOk c.put_lone-in-None.result (entries c.put_lone-in-None.new.out.items ≡ entries c.args.out.now.items ++ v)) same c.put_lone-in-None.ensures
 
 pub word::put_fields-returns : goal.word::put_fields-returns
-word::put_fields-returns t c = no_more_rows _ c.args.rows.now c.args.parts.now c.loop-i.i c.args.way _ (omega arith) c.loop-i.invariant
+word::put_fields-returns t c = no_more_rows c.args.facts.now _ c.args.rows.now c.args.parts.now c.loop-i.i c.args.way _ (omega arith) c.loop-i.invariant
 
 pub word::put_turns-loop-i-preserved : goal.word::put_turns-loop-i-preserved
-word::put_turns-loop-i-preserved t c = one_turn _ c.args.parts.now c.loop-i.i c.index-parts-i.result _ c.args.way _ _ (omega arith) c.index-parts-i.is refl c.in_ok-put_turn.ensures c.loop-i.invariant
+word::put_turns-loop-i-preserved t c = one_turn c.args.facts.now _ c.args.parts.now c.loop-i.i c.index-parts-i.result _ c.args.way _ _ (omega arith) c.index-parts-i.is refl c.in_ok-put_turn.ensures c.loop-i.invariant

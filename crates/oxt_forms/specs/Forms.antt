@@ -1,14 +1,12 @@
 -- Tests on documents that decide how a node is read.
 use Rattle.std.specs.Prelude.{ℕ, ◌==◌, List, Bool, false, not, ◌&&◌, ◌||◌, if◌then◌else◌, codes, nat_lt}
-use Rattle.std.specs.List.{list_any}
 use Rattle.oxt_table.specs.declared.category.Category.TheVariants as category
 use Rattle.oxt_table.specs.declared.kind.Kind.{Kind}
 use Rattle.oxt_table.specs.declared.kind.Kind.TheVariants as kind
 use Rattle.oxt_tree.specs.Fields.{first, count}
 use Rattle.oxt_tree.specs.Inner.{seen}
 use Rattle.oxt_tree.specs.Doc.{Doc, text, Docs}
-use Rattle.oxt_tree.specs.Fields.{named, field_of, elements, docs_list, is_nil, is_set, is_text, is_kind, is_in, is_empty_list}
-use Rattle.oxt_tree.specs.Syntax.{is_mere_declaration}
+use Rattle.oxt_tree.specs.Fields.{named, field_of, elements, is_nil, is_set, is_text, is_kind, is_in, is_empty_list}
 use Rattle.oxt_item.specs.declared.item.Binding.{Binding}
 use Rattle.oxt_item.specs.declared.item.Binding.TheVariants as binding
 
@@ -103,14 +101,6 @@ is_called k ds =
     not (is_set (named (codes "optional") k ds))
     && (is_argument (elements (named (codes "arguments") k ds))
     && is_callable (within (codes "callee") k ds))
-
--- a statement that is neither an expression nor nothing
-abbrev pub is_loud : Doc → Bool
-is_loud d = not (is_kind kind.ExpressionStatement d) && not (is_mere_declaration d)
-
--- a static block all of whose statements are expressions or nothing
-abbrev pub is_quiet : Kind → Docs → Bool
-is_quiet k ds = not (list_any is_loud (docs_list (elements (named (codes "body") k ds))))
 
 -- what the word of a declaration declares its names as
 abbrev pub binding_of : Doc → Binding

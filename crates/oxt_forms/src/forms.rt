@@ -1,11 +1,10 @@
 //! Tests that decide how a node is read.
 ghost use Rattle.std.specs.Prelude.{◌≡◌, ◌<◌, ◌^◌, not, ◌&&◌, codes};
-ghost use Rattle.std.specs.List.{list_any};
 ghost use Rattle.oxt_tree.specs.Fields.{count, first};
 ghost use Rattle.oxt_tree.specs.Inner.{seen};
-ghost use Rattle.oxt_tree.specs.Fields.{docs_list, elements, field_of, is_empty_list, is_kind, is_nil, is_set, is_text, named};
+ghost use Rattle.oxt_tree.specs.Fields.{elements, field_of, is_empty_list, is_kind, is_nil, is_set, is_text, named};
 ghost use Rattle.oxt_tree.specs.View.{docs_in, doc_or_nil, node_doc, part_doc};
-ghost use Rattle.oxt_word.specs.Forms.{binding_of, is_argument, is_bare_list, is_bare_parameter, is_called, is_callable, is_choice, is_empty_object, is_found, is_found_made, is_long, is_loud, is_name_again, is_one, is_put, is_quiet, makes, same_text, within};
+ghost use Rattle.oxt_forms.specs.Forms.{binding_of, is_argument, is_bare_list, is_bare_parameter, is_called, is_callable, is_choice, is_empty_object, is_found, is_found_made, is_long, is_name_again, is_one, is_put, makes, same_text, within};
 
 use oxt_item::item::Binding;
 use oxt_table::category::Category;
@@ -14,7 +13,7 @@ use oxt_tree::fields::count;
 use oxt_tree::tree::{Node, Part};
 
 /// The field of that name, through wrappers and parentheses.
-fn within<'a>(node: &'a Node, name: &str) -> Option<&'a Part>
+pub fn within<'a>(node: &'a Node, name: &str) -> Option<&'a Part>
     ensures { doc_or_nil result ≡ within name.now node.now.kind (docs_in node.now.parts.items) }
 {
     match node.field(name) {
@@ -52,7 +51,7 @@ pub fn lists_nothing(node: &Node, name: &str) -> bool
 }
 
 /// Whether it is `{}`.
-fn is_empty_object(part: &Part) -> bool
+pub(crate) fn is_empty_object(part: &Part) -> bool
     ensures { result ≡ is_empty_object (part_doc part.now) }
 {
     match part {
@@ -63,7 +62,7 @@ fn is_empty_object(part: &Part) -> bool
 }
 
 /// Whether both are texts, and one.
-fn same_text(a: &Part, b: &Part) -> bool
+pub(crate) fn same_text(a: &Part, b: &Part) -> bool
     ensures { result ≡ same_text (part_doc a.now) (part_doc b.now) }
 {
     match a {
@@ -89,7 +88,7 @@ fn same_name(a: &Node, b: &Node) -> bool
 }
 
 /// Whether both are bare names, and one.
-fn is_name_again(a: &Part, b: &Part) -> bool
+pub(crate) fn is_name_again(a: &Part, b: &Part) -> bool
     ensures { result ≡ is_name_again (part_doc a.now) (part_doc b.now) }
 {
     match a {
@@ -119,7 +118,7 @@ fn makes(name: &Part, part: &Part) -> bool
 }
 
 /// Whether the assignment is to the name.
-fn assigns_to(name: &Part, node: &Node) -> bool
+pub(crate) fn assigns_to(name: &Part, node: &Node) -> bool
     ensures { result ≡ is_name_again (part_doc name.now)
         (within (codes "left") node.now.kind (docs_in node.now.parts.items)) }
 {
@@ -130,7 +129,7 @@ fn assigns_to(name: &Part, node: &Node) -> bool
 }
 
 /// Whether the field of that name holds `{}`.
-fn holds_empty_object(node: &Node, name: &str) -> bool
+pub(crate) fn holds_empty_object(node: &Node, name: &str) -> bool
     ensures { result
         ≡ is_empty_object (within name.now node.now.kind (docs_in node.now.parts.items)) }
 {
@@ -141,7 +140,7 @@ fn holds_empty_object(node: &Node, name: &str) -> bool
 }
 
 /// Whether it is `x || ..` with a bare name.
-fn is_choice(node: &Node) -> bool
+pub(crate) fn is_choice(node: &Node) -> bool
     ensures { result ≡ is_choice node.now.kind (docs_in node.now.parts.items) }
 {
     node.holds_text("operator", "||")
@@ -180,7 +179,7 @@ fn makes_left(node: &Node) -> bool
 }
 
 /// Whether there is exactly one.
-fn is_one(parts: &[Part]) -> bool
+pub(crate) fn is_one(parts: &[Part]) -> bool
     ensures { result ≡ is_one (docs_in parts.now) }
 {
     count(parts) == 1
@@ -269,28 +268,6 @@ pub fn is_called(node: &Node) -> bool
                 Some(callee) => is_callable(callee),
                 None => false,
             })
-}
-
-/// Whether it is a statement that is neither an expression nor nothing.
-fn is_loud(part: &Part) -> bool
-    ensures { result ≡ is_loud (part_doc part.now) }
-{
-    !part.is_kind(Kind::ExpressionStatement) && !part.is_mere_declaration()
-}
-
-/// Whether each statement of the block is an expression or nothing.
-#[tactic(auto, using(oxt_tree::proofs::Lists::list_any_docs_in))]
-pub fn is_quiet(node: &Node) -> bool
-    ensures { result ≡ is_quiet node.now.kind (docs_in node.now.parts.items) }
-{
-    !is_any_loud(node.list("body"))
-}
-
-/// Whether one of them is a statement that is neither an expression nor nothing.
-fn is_any_loud(parts: &[Part]) -> bool
-    ensures { result ≡ list_any (λ part. is_loud (part_doc part)) parts.now }
-{
-    parts.iter().any(|part| is_loud(part))
 }
 
 /// What the declaration declares its names as.

@@ -1,0 +1,91 @@
+//! Why bytes are refused.
+ghost use Rattle.std.specs.Prelude.{◌≡◌, IfOk, ◌++◌, codes, option_map, string_bytes};
+ghost use Rattle.oxt_check.specs.Faults.{refusal_in};
+ghost use Rattle.oxt_check.specs.Refusals.{difference_in, line_of, uncertified};
+ghost use Rattle.oxt_check.specs.declared.fault.Fault.TheVariants.{OutOfMemory as NoMemory};
+
+use oxt_tree::ids::OutOfMemory;
+use oxt_tree::name::Name;
+use std::alloc::{AllocError, Global};
+use thiserror::Error;
+
+/// Why a tree is refused. The first of the reasons that apply is answered, in the order of the
+/// variants after want of memory, which may come at any step.
+#[derive(Debug, Drop, Error)]
+pub enum Fault {
+    /// Memory ran out.
+    #[error("out of memory")]
+    OutOfMemory,
+    /// The bytes are no JSON, or nest too deeply.
+    #[error("not JSON")]
+    Json,
+    /// The JSON is no tree: `place` is the pointer of the first wrong value.
+    #[error("no tree at {place:?}", place = .place.as_str())]
+    Shape { place: Name },
+    /// The tree has a form that is not built yet: `kind` names the first.
+    #[error("not built yet: {kind:?}", kind = .kind.as_str())]
+    Unbuilt { kind: Name },
+    /// The lowered tree failed its certificate, and was thrown away.
+    #[error("the lowered tree is not certified")]
+    Uncertified { mismatch: Mismatch },
+}
+
+/// How a lowered tree fails its certificate.
+#[derive(Debug, Drop)]
+pub enum Mismatch {
+    /// It is no tree of the grammar, at this JSON pointer first.
+    Shape { place: Name },
+    /// Something of TypeScript is left in it, at this JSON pointer first.
+    Plain { place: Name },
+    /// A setting of the program, at this JSON pointer, is not the source's, or names another language.
+    Setting { place: Name },
+    /// Its effect word differs from the source's, at this index first.
+    Item { index: usize },
+}
+
+impl From<OutOfMemory> for Fault {
+    ghost from_gives = { λ _ f. f ≡ NoMemory };
+
+    fn from(_error: OutOfMemory) -> Fault {
+        Fault::OutOfMemory
+    }
+}
+
+impl Fault {
+    /// The line that names the fault on standard error; for want of memory there is none.
+    pub fn line(&self, alloc: Global) -> Result<Option<String>, AllocError>
+        ensures { IfOk result
+            (λ line. option_map string_bytes line ≡ option_map line_of (refusal_in self.now)) }
+    {
+        match self {
+            Fault::OutOfMemory => Ok(None),
+            Fault::Json => Ok(Some(String::from_str(alloc, "json\n")?)),
+            Fault::Shape { place } => Ok(Some(named_line(alloc, "shape ", place.as_str())?)),
+            Fault::Unbuilt { kind } => Ok(Some(named_line(alloc, "unbuilt ", kind.as_str())?)),
+            Fault::Uncertified { mismatch } => Ok(Some(uncertified_line(alloc, mismatch)?)),
+        }
+    }
+}
+
+// What is wrong, where, and a line feed.
+fn named_line(alloc: Global, what: &str, name: &str) -> Result<String, AllocError>
+    ensures { IfOk result (λ line. string_bytes line ≡ what.now ++ name.now ++ codes "\n") }
+{
+    let mut line = String::from_str(alloc, what)?;
+    line.push_str(name)?;
+    line.push_str("\n")?;
+    Ok(line)
+}
+
+// How the lowered tree fails its certificate, and a line feed.
+fn uncertified_line(alloc: Global, mismatch: &Mismatch) -> Result<String, AllocError>
+    ensures { IfOk result
+        (λ line. string_bytes line ≡ line_of (uncertified (difference_in mismatch.now))) }
+{
+    match mismatch {
+        Mismatch::Shape { place } => named_line(alloc, "uncertified shape ", place.as_str()),
+        Mismatch::Plain { place } => named_line(alloc, "uncertified plain ", place.as_str()),
+        Mismatch::Setting { place } => named_line(alloc, "uncertified setting ", place.as_str()),
+        Mismatch::Item { index } => format!(in alloc; "uncertified item {index}\n"),
+    }
+}

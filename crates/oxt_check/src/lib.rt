@@ -1,0 +1,16 @@
+//! Why a tree is refused, and what the check of a program finds out for the passes.
+#![tactic(auto)]
+
+pub mod check_program;
+pub mod fault;
+#[cfg(test)]
+mod tests;
+
+pub use check_program::check;
+pub use fault::{Fault, Mismatch};
+pub use oxt_options::{
+    DecoratorOptions, Module, RewriteExtensionsMode, TransformOptions, TypeScriptOptions,
+    parse_rewrite_import_extensions,
+};
+pub use oxt_plan::lists::PlanLists;
+pub use oxt_plan::plan::Plan;

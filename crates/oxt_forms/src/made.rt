@@ -1,0 +1,134 @@
+//! Forms that are read by a rule of their own where they have made names.
+ghost use Rattle.std.specs.Prelude.{◌≡◌, not, codes};
+ghost use Rattle.std.specs.List.{list_any};
+ghost use Rattle.oxt_forms.specs.Facts.{is_made};
+ghost use Rattle.oxt_forms.specs.Forms.{within};
+ghost use Rattle.oxt_forms.specs.Made.{are_silent, is_keep, is_loud, is_made_binding, is_made_use, is_quiet, is_silent, is_silent_declaration, is_silent_declarator};
+ghost use Rattle.oxt_tree.specs.Fields.{named};
+ghost use Rattle.oxt_tree.specs.View.{docs_in, part_doc};
+
+use crate::facts::Facts;
+use crate::forms::{lists_nothing, within};
+use oxt_table::kind::Kind;
+use oxt_tree::tree::{Node, Part};
+
+/// Whether the part is the use of a made name.
+pub(crate) fn is_made_use(facts: &Facts, part: &Part) -> bool
+    ensures { result ≡ is_made_use facts.now (part_doc part.now) }
+{
+    match part {
+        Part::Node(node) => node.kind.is(Kind::IdentifierReference) && has_made_name(facts, node),
+        _ => false,
+    }
+}
+
+/// Whether the name in the node is made.
+fn has_made_name(facts: &Facts, node: &Node) -> bool
+    ensures { result
+        ≡ is_made facts.now (named (codes "name") node.now.kind (docs_in node.now.parts.items)) }
+{
+    match node.field("name") {
+        Some(name) => facts.is_made(name),
+        None => false,
+    }
+}
+
+/// Whether what stands in the field of that name is the use of a made name.
+pub(crate) fn holds_made_use(facts: &Facts, node: &Node, name: &str) -> bool
+    ensures { result ≡ is_made_use facts.now
+        (within name.now node.now.kind (docs_in node.now.parts.items)) }
+{
+    match within(node, name) {
+        Some(part) => is_made_use(facts, part),
+        None => false,
+    }
+}
+
+/// Whether it is an assignment by `=` to a made name.
+pub fn is_keep(facts: &Facts, node: &Node) -> bool
+    ensures { result ≡ is_keep facts.now node.now.kind (docs_in node.now.parts.items) }
+{
+    node.holds_text("operator", "=") && holds_made_use(facts, node, "left")
+}
+
+/// Whether the part is a made name as a pattern.
+pub(crate) fn is_made_binding(facts: &Facts, part: &Part) -> bool
+    ensures { result ≡ is_made_binding facts.now (part_doc part.now) }
+{
+    match part {
+        Part::Node(node) => node.kind.is(Kind::BindingIdentifier) && has_made_name(facts, node),
+        _ => false,
+    }
+}
+
+/// Whether it is a declarator of a made name without a value.
+pub fn is_silent(facts: &Facts, node: &Node) -> bool
+    ensures { result ≡ is_silent facts.now node.now.kind (docs_in node.now.parts.items) }
+{
+    node.lacks("init")
+        && match node.field("id") {
+            Some(id) => is_made_binding(facts, id),
+            None => false,
+        }
+}
+
+/// Whether the part declares a made name without a value.
+fn is_silent_declarator(facts: &Facts, part: &Part) -> bool
+    ensures { result ≡ is_silent_declarator facts.now (part_doc part.now) }
+{
+    match part {
+        Part::Node(node) => is_silent(facts, node),
+        _ => false,
+    }
+}
+
+/// Whether one of them declares something else.
+fn is_any_loud_declarator(facts: &Facts, parts: &[Part]) -> bool
+    ensures { result
+        ≡ list_any (λ part. not (is_silent_declarator facts.now (part_doc part))) parts.now }
+{
+    parts.iter().any(|part| !is_silent_declarator(facts, part))
+}
+
+/// Whether the declarators of the node, one at least, all declare made names without a value.
+#[tactic(auto, using(oxt_tree::proofs::Lists::list_any_docs_in))]
+fn are_silent(facts: &Facts, node: &Node) -> bool
+    ensures { result ≡ are_silent facts.now
+        (named (codes "declarations") node.now.kind (docs_in node.now.parts.items)) }
+{
+    !lists_nothing(node, "declarations")
+        && !is_any_loud_declarator(facts, node.list("declarations"))
+}
+
+/// Whether the part is a declaration that is read as nothing.
+pub(crate) fn is_silent_declaration(facts: &Facts, part: &Part) -> bool
+    ensures { result ≡ is_silent_declaration facts.now (part_doc part.now) }
+{
+    match part {
+        Part::Node(node) => node.kind.is(Kind::VariableDeclaration) && are_silent(facts, node),
+        _ => false,
+    }
+}
+
+/// Whether the part is a statement that is neither an expression nor nothing.
+fn is_loud(facts: &Facts, part: &Part) -> bool
+    ensures { result ≡ is_loud facts.now (part_doc part.now) }
+{
+    !part.is_kind(Kind::ExpressionStatement)
+        && (!part.is_mere_declaration() && !is_silent_declaration(facts, part))
+}
+
+/// Whether each statement of the block is an expression or nothing.
+#[tactic(auto, using(oxt_tree::proofs::Lists::list_any_docs_in))]
+pub fn is_quiet(facts: &Facts, node: &Node) -> bool
+    ensures { result ≡ is_quiet facts.now node.now.kind (docs_in node.now.parts.items) }
+{
+    !is_any_loud(facts, node.list("body"))
+}
+
+/// Whether one of them is a statement that is neither an expression nor nothing.
+fn is_any_loud(facts: &Facts, parts: &[Part]) -> bool
+    ensures { result ≡ list_any (λ part. is_loud facts.now (part_doc part)) parts.now }
+{
+    parts.iter().any(|part| is_loud(facts, part))
+}

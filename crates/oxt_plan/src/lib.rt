@@ -1,0 +1,7 @@
+//! What the check of a program finds out for the passes.
+#![tactic(auto)]
+
+pub mod lists;
+pub mod plan;
+#[cfg(test)]
+mod tests;

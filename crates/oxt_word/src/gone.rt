@@ -1,0 +1,69 @@
+//! Nodes that do nothing, since only TypeScript has them.
+ghost use Rattle.std.specs.Prelude.{◌≡◌, ◌++◌, [], OnOk, codes};
+ghost use Rattle.oxt_item.specs.Entry.{entries, lone};
+ghost use Rattle.oxt_tree.specs.Fields.{named};
+ghost use Rattle.oxt_tree.specs.View.{docs_in};
+ghost use Rattle.oxt_word.specs.Erased.{gone_word, is_erased_default, is_gone};
+ghost use Rattle.oxt_word.specs.Node.{start};
+
+use crate::put::{put_lone, put_start};
+use crate::rule::Rule;
+use crate::way::Way;
+use oxt_item::item::{Binding, Item, Mark};
+use oxt_table::kind::Kind;
+use oxt_tree::ids::OutOfMemory;
+use oxt_tree::tree::{Node, Part};
+use std::alloc::Global;
+
+/// Whether the node is erased by its kind, by `declare` or `type`, or for want of a body.
+pub fn is_gone(rule: Rule, node: &Node) -> bool
+    ensures { result ≡ is_gone rule node.now.kind (docs_in node.now.parts.items) }
+{
+    match rule {
+        Rule::Erased => true,
+        Rule::Variables => node.flag("declare"),
+        Rule::FunctionDeclaration => node.flag("declare"),
+        Rule::ClassDeclaration => node.flag("declare"),
+        Rule::ClassField(_) => node.flag("declare"),
+        Rule::Method => node.holds_kind("value", Kind::TSEmptyBodyFunctionExpression),
+        Rule::Import => node.holds_text("importKind", "type"),
+        Rule::Binds(Binding::Import) => node.holds_text("importKind", "type"),
+        Rule::ExportList => node.holds_text("exportKind", "type"),
+        Rule::ExportPart => node.holds_text("exportKind", "type"),
+        Rule::ExportDefault => has_erased_default(node),
+        _ => false,
+    }
+}
+
+/// Whether the default is an interface, a function without body, or a declaration with `declare`.
+fn has_erased_default(node: &Node) -> bool
+    ensures { result ≡ is_erased_default
+        (named (codes "declaration") node.now.kind (docs_in node.now.parts.items)) }
+{
+    match node.field("declaration") {
+        Some(Part::Node(declaration)) => {
+            declaration.kind.is(Kind::TSInterfaceDeclaration)
+                || (declaration.kind.is(Kind::TSDeclareFunction) || declaration.flag("declare"))
+        }
+        _ => false,
+    }
+}
+
+/// Puts what an erased statement leaves: an empty block, an absent part, or nothing.
+pub fn put_gone(alloc: Global, way: Way, out: &mut Vec<Item>) -> Result<(), OutOfMemory>
+    ensures { OnOk result (entries out.new.items ≡ entries out.old.items ++ gone_word way) }
+{
+    match way {
+        Way::Branch => put_empty_block(alloc, out),
+        Way::Alternate => put_lone(alloc, Mark::Nil, out),
+        _ => Ok(()),
+    }
+}
+
+/// Puts a block without statements.
+fn put_empty_block(alloc: Global, out: &mut Vec<Item>) -> Result<(), OutOfMemory>
+    ensures { OnOk result (entries out.new.items ≡ entries out.old.items ++ (start Kind.BlockStatement [] ++ lone Mark.Close)) }
+{
+    put_start(Kind::BlockStatement, Vec::new(alloc), out)?;
+    put_lone(alloc, Mark::Close, out)
+}
