@@ -1,0 +1,6 @@
+pub mod Blocks
+pub mod Constants
+pub mod Enums
+pub mod Groups
+pub mod Members
+pub mod Tables

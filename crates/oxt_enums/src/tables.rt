@@ -1,0 +1,257 @@
+//! Tables of the constants of members.
+ghost use Rattle.std.specs.Prelude.{◌≡◌, ◌==◌, ◌&&◌, ◌++◌, ◌∷◌, [], IfOk, OnOk, ℕ, List, Bool, None, Some, codes, if◌then◌else◌, is_some, option_map, slice_get};
+ghost use Rattle.std.specs.Option.{option_or};
+ghost use Rattle.std.specs.Str.{bytes_eq};
+ghost use Rattle.indexmap.specs.IndexMap.{values};
+ghost use Rattle.oxt_constant.specs.Following.{before_view, member_constant};
+ghost use Rattle.oxt_enums.specs.Blocks.{block_view};
+ghost use Rattle.oxt_enums.specs.Constants.{Known, flat, is_block_of, is_named};
+ghost use Rattle.oxt_enums.specs.Members.{found_view};
+ghost use Rattle.oxt_enums.specs.Tables.{Knows, at_name, at_number, at_path, in_bodies, in_enums, in_numbers, preceding_at, table_meanings, value_view};
+ghost use Rattle.oxt_scope.specs.Stack.{number_at};
+ghost use Rattle.oxt_symbol.specs.Constant.{constant_view};
+ghost use Rattle.oxt_tree.specs.Fields.{named};
+ghost use Rattle.oxt_tree.specs.View.{docs_in};
+
+use crate::blocks::EnumBlock;
+use crate::members::Member;
+use crate::names::Names;
+use crate::owners::Owners;
+use indexmap::IndexMap;
+use oxt_constant::member::{Before, member_constant};
+use oxt_symbol::constant::ConstantValue;
+use oxt_tree::ids::{NodeId, OutOfMemory};
+use oxt_tree::tree::Node;
+use std::alloc::Global;
+use std::hash::Hash;
+
+/// The constants of members, each at the first member with its key.
+#[derive(Drop)]
+pub struct Tables<'a> {
+    /// By the number of the member.
+    numbers: IndexMap<u64, Option<ConstantValue>>,
+    /// By the number of the body and the name.
+    bodies: IndexMap<(u64, &'a str), Option<ConstantValue>>,
+    /// Of members with a constant, by the number of the scope, the name of the enum and the name.
+    enums: IndexMap<(u64, &'a str, &'a str), Option<ConstantValue>>,
+}
+
+impl<'a> Tables<'a> {
+    /// Tables without a constant.
+    pub fn new(alloc: Global) -> Tables<'a>
+        ensures { Knows result [] }
+    {
+        Tables {
+            numbers: IndexMap::new(alloc),
+            bodies: IndexMap::new(alloc),
+            enums: IndexMap::new(alloc),
+        }
+    }
+
+    /// Puts the constant of a member in that block behind the others.
+    #[tactic(auto, using(crate::proofs::Growth::knows_more))]
+    pub fn put(
+        &mut self,
+        block: Option<EnumBlock<'a>>,
+        member: &Member<'a>,
+        value: &Option<ConstantValue>,
+    ) -> Result<(), OutOfMemory>
+        ensures { OnOk result ((ks : List Known) (w : Bool) → Knows self.old ks
+            → Knows self.new (ks ++ (record { member = found_view member.now; block = option_map block_view block.entry; value = value_view value.now; is_wide = w }) ∷ [])) }
+    {
+        let number = member.node.id.0;
+        put_number(&mut self.numbers, number, shared(value)?)?;
+        let body = member.place.block;
+        put_in_body(&mut self.bodies, body, member.name, shared(value)?)?;
+        put_in_enum(&mut self.enums, block, member.name, shared(value)?)
+    }
+
+    /// The constant of a member, with what stands before it, by what names mean.
+    pub fn value_behind(
+        &self,
+        alloc: Global,
+        owners: &Owners,
+        before: &Before,
+        member: &Node,
+    ) -> Result<Option<ConstantValue>, OutOfMemory>
+        ensures { IfOk result (λ value. value_view value
+            ≡ member_constant (table_meanings owners.now self.now) (before_view before.now) (named (codes "initializer") member.now.kind (docs_in member.now.parts.items))) }
+    {
+        let names = Names {
+            owners,
+            tables: self,
+        };
+        member_constant(alloc, &names, before, member)
+    }
+
+    /// What stands in front of a member, by the number of that.
+    pub fn before(&self, previous: Option<NodeId>) -> Result<Before, OutOfMemory>
+        ensures { IfOk result (λ b. before_view b ≡ preceding_at (number_at previous) self.now) }
+    {
+        match previous {
+            Some(number) => self.behind(number),
+            None => Ok(Before::Front),
+        }
+    }
+
+    /// What stands in front of a member behind that one.
+    fn behind(&self, number: NodeId) -> Result<Before, OutOfMemory>
+        ensures { IfOk result (λ b. before_view b ≡ preceding_at (Some number.0) self.now) }
+    {
+        match self.value_of(number) {
+            Some(value) => Ok(Before::Behind(Some(value.share()?))),
+            None => Ok(Before::Behind(None)),
+        }
+    }
+
+    /// The constant of the member of that number, if it has one.
+    pub fn value_of(&self, member: NodeId) -> Option<&ConstantValue>
+        ensures { option_map (λ value. constant_view value.now) result
+            ≡ flat (in_numbers member.0 self.now) }
+    {
+        match self.numbers.get_index_of(&member.0) {
+            Some(place) => value_at(&self.numbers, place),
+            None => None,
+        }
+    }
+
+    /// The constant of the first member of that name in that body, if it has one.
+    pub fn in_body(&self, body: NodeId, name: &str) -> Option<&ConstantValue>
+        ensures { option_map (λ value. constant_view value.now) result
+            ≡ flat (in_bodies body.0 name.now self.now) }
+    {
+        match self.bodies.get_index_of(&(body.0, name)) {
+            Some(place) => value_at(&self.bodies, place),
+            None => None,
+        }
+    }
+
+    /// The constant of the first member of that name with one, in the enum of that name that the
+    /// scope declares.
+    pub fn in_enum(&self, scope: NodeId, enum_name: &str, name: &str) -> Option<&ConstantValue>
+        ensures { option_map (λ value. constant_view value.now) result
+            ≡ flat (in_enums scope.0 enum_name.now name.now self.now) }
+    {
+        match self.enums.get_index_of(&(scope.0, enum_name, name)) {
+            Some(place) => value_at(&self.enums, place),
+            None => None,
+        }
+    }
+}
+
+/// The constant at that place of the table, if there is one.
+fn value_at<K: Eq + Hash>(
+    table: &IndexMap<K, Option<ConstantValue>>,
+    place: usize,
+) -> Option<&ConstantValue>
+    ensures { option_map (λ value. constant_view value.now) result
+        ≡ flat (option_map value_view (slice_get (values table.now) place)) }
+{
+    match table.get_index(place) {
+        Some((_, value)) => value.as_ref(),
+        None => None,
+    }
+}
+
+/// The same constant.
+fn shared(value: &Option<ConstantValue>) -> Result<Option<ConstantValue>, OutOfMemory>
+    ensures { IfOk result (λ copy. value_view copy ≡ value_view value.now) }
+{
+    match value {
+        Some(value) => Ok(Some(value.share()?)),
+        None => Ok(None),
+    }
+}
+
+/// Puts the constant of a member in that body, if no other of the name has one.
+#[tactic(auto, using(crate::proofs::Growth::nameless))]
+fn put_in_body<'a>(
+    table: &mut IndexMap<(u64, &'a str), Option<ConstantValue>>,
+    body: NodeId,
+    name: Option<&'a str>,
+    value: Option<ConstantValue>,
+) -> Result<(), OutOfMemory>
+    ensures { OnOk result ((n : ℕ) (t : List ℕ) → option_map value_view (at_name n t table.new.entries)
+        ≡ option_or (option_map value_view (at_name n t table.old.entries)) (if n == body.0 && is_named t (option_map (λ x. x.now) name.entry) then Some (value_view value) else None)) }
+{
+    match name {
+        Some(name) => put_name(table, body.0, name, value),
+        None => Ok(()),
+    }
+}
+
+/// Puts the constant of a member in that block, if it has one and no other of the name has.
+fn put_in_enum<'a>(
+    table: &mut IndexMap<(u64, &'a str, &'a str), Option<ConstantValue>>,
+    block: Option<EnumBlock<'a>>,
+    name: Option<&'a str>,
+    value: Option<ConstantValue>,
+) -> Result<(), OutOfMemory>
+    ensures { OnOk result ((n : ℕ) (e t : List ℕ) → option_map value_view (at_path n e t table.new.entries)
+        ≡ option_or (option_map value_view (at_path n e t table.old.entries)) (if is_some (value_view value) && (is_block_of n e (option_map block_view block.entry) && is_named t (option_map (λ x. x.now) name.entry)) then Some (value_view value) else None)) }
+{
+    if value.is_none() {
+        return Ok(());
+    }
+    let Some(block) = block else {
+        return Ok(());
+    };
+    let Some(name) = name else {
+        return Ok(());
+    };
+    put_path(table, block.scope.0, block.name, name, value)
+}
+
+/// Puts the constant at the number, if nothing stands there.
+#[tactic(auto, using(crate::proofs::Firsts::number_kept))]
+fn put_number(
+    table: &mut IndexMap<u64, Option<ConstantValue>>,
+    number: u64,
+    value: Option<ConstantValue>,
+) -> Result<(), OutOfMemory>
+    ensures { OnOk result ((q : ℕ) → option_map value_view (at_number q table.new.entries)
+        ≡ option_or (option_map value_view (at_number q table.old.entries)) (if q == number then Some (value_view value) else None)) }
+{
+    if table.contains_key(&number) {
+        return Ok(());
+    }
+    table.insert(number, value)?;
+    Ok(())
+}
+
+/// Puts the constant at the body and the name, if nothing stands there.
+#[tactic(auto, using(crate::proofs::Firsts::name_kept))]
+fn put_name<'a>(
+    table: &mut IndexMap<(u64, &'a str), Option<ConstantValue>>,
+    body: u64,
+    name: &'a str,
+    value: Option<ConstantValue>,
+) -> Result<(), OutOfMemory>
+    ensures { OnOk result ((n : ℕ) (t : List ℕ) → option_map value_view (at_name n t table.new.entries)
+        ≡ option_or (option_map value_view (at_name n t table.old.entries)) (if n == body && bytes_eq t name.now then Some (value_view value) else None)) }
+{
+    if table.contains_key(&(body, name)) {
+        return Ok(());
+    }
+    table.insert((body, name), value)?;
+    Ok(())
+}
+
+/// Puts the constant at the scope and the two names, if nothing stands there.
+#[tactic(auto, using(crate::proofs::Firsts::path_kept))]
+fn put_path<'a>(
+    table: &mut IndexMap<(u64, &'a str, &'a str), Option<ConstantValue>>,
+    scope: u64,
+    enum_name: &'a str,
+    name: &'a str,
+    value: Option<ConstantValue>,
+) -> Result<(), OutOfMemory>
+    ensures { OnOk result ((n : ℕ) (e t : List ℕ) → option_map value_view (at_path n e t table.new.entries)
+        ≡ option_or (option_map value_view (at_path n e t table.old.entries)) (if (n == scope && bytes_eq e enum_name.now) && bytes_eq t name.now then Some (value_view value) else None)) }
+{
+    if table.contains_key(&(scope, enum_name, name)) {
+        return Ok(());
+    }
+    table.insert((scope, enum_name, name), value)?;
+    Ok(())
+}
