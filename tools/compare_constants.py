@@ -11,14 +11,14 @@ program `oxt_members`. What the reading takes for no tree is passed over; what t
 counted. Prints a line for each tree that differs, then the counts. The status is 1 if there is a difference, and else 0.
 """
 import argparse
-import importlib
 import json
 import random
 import subprocess
 import sys
 
+from trees import random_trees, trees_in
+
 MAX_SHOWN = 20
-GENERATORS = ("fuzz", "fuzz_class", "fuzz_ns")
 
 
 class Reading:
@@ -54,30 +54,6 @@ class Reading:
             const = " const" if blocks[0].enumdecl.const else ""
             lines += [f"{block.node.num} {blocks[0].enum.scope.node.num}{const} {bodies}" for block in blocks]
         return sorted(lines)
-
-
-def trees_in(files):
-    for path in files:
-        with open(path, encoding="utf-8", errors="replace") as source:
-            try:
-                value = json.load(source)
-            except ValueError:
-                continue
-        if isinstance(value, dict) and "expect" in value:
-            value = value.get("input")
-        yield path, json.dumps(value, separators=(",", ":")).encode()
-
-
-def random_trees(seed, count):
-    generators = [importlib.import_module(name) for name in GENERATORS]
-    for number in range(seed, seed + count):
-        generator = generators[number % len(generators)]
-        try:
-            _name, tree, _options = generator.one(number)
-        except Exception:  # a generator may give up on a number
-            continue
-        if tree is not None:
-            yield f"{generator.__name__} {number}", json.dumps(tree, separators=(",", ":")).encode()
 
 
 class Enums:

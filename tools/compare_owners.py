@@ -9,13 +9,12 @@ program `oxt_owners`. What the reading takes for no tree is passed over. Prints 
 the counts. The status is 1 if there is a difference, and else 0.
 """
 import argparse
-import importlib
-import json
 import subprocess
 import sys
 
+from trees import random_trees, trees_in
+
 MAX_SHOWN = 20
-GENERATORS = ("fuzz", "fuzz_class", "fuzz_ns")
 
 
 class Reading:
@@ -40,30 +39,6 @@ class Reading:
         owner = use.owner.scope.node.num if use.owner else "-"
         way = "type" if use.intype else "update" if use.write and use.read else "write" if use.write else ""
         return f"{use.node.num} {use.node.name} {owner} {way}".rstrip()
-
-
-def trees_in(files):
-    for path in files:
-        with open(path, encoding="utf-8", errors="replace") as source:
-            try:
-                value = json.load(source)
-            except ValueError:
-                continue
-        if isinstance(value, dict) and "expect" in value:
-            value = value.get("input")
-        yield path, json.dumps(value, separators=(",", ":")).encode()
-
-
-def random_trees(seed, count):
-    generators = [importlib.import_module(name) for name in GENERATORS]
-    for number in range(seed, seed + count):
-        generator = generators[number % len(generators)]
-        try:
-            _name, tree, _options = generator.one(number)
-        except Exception:  # a generator may give up on a number
-            continue
-        if tree is not None:
-            yield f"{generator.__name__} {number}", json.dumps(tree, separators=(",", ":")).encode()
 
 
 def compare(reading, program, cases):
