@@ -1,3 +1,5 @@
 pub mod Bindings
 pub mod Firsts
 pub mod Searches
+pub mod Shares
+pub mod Strips

@@ -1,5 +1,5 @@
 -- Tests on documents that decide how a node is read.
-use Rattle.std.specs.Prelude.{ℕ, ◌==◌, List, Bool, false, not, ◌&&◌, ◌||◌, if◌then◌else◌, codes, nat_lt}
+use Rattle.std.specs.Prelude.{ℕ, ◌==◌, List, Bool, false, not, ◌&&◌, if◌then◌else◌, codes, nat_lt}
 use Rattle.oxt_table.specs.declared.category.Category.TheVariants as category
 use Rattle.oxt_table.specs.declared.kind.Kind.{Kind}
 use Rattle.oxt_table.specs.declared.kind.Kind.TheVariants as kind

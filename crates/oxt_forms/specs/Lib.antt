@@ -1,3 +1,5 @@
 pub mod Facts
 pub mod Forms
 pub mod Made
+pub mod Privates
+pub mod Shared

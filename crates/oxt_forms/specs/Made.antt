@@ -1,5 +1,5 @@
 -- Forms that are read by a rule of their own where they have made names.
-use Rattle.std.specs.Prelude.{ℕ, List, [], ◌∷◌, Bool, true, false, not, ◌&&◌, ◌||◌, if◌then◌else◌, Option, None, Some, codes}
+use Rattle.std.specs.Prelude.{ℕ, List, Bool, false, not, ◌&&◌, ◌||◌, if◌then◌else◌, Option, None, Some, codes}
 use Rattle.std.specs.List.{list_any}
 use Rattle.oxt_table.specs.Places.{same_kind}
 use Rattle.oxt_table.specs.declared.kind.Kind.{Kind}

@@ -1,31 +1,37 @@
 //! What is known of the names of a tree that is read.
-ghost use Rattle.std.specs.Prelude.{◌≡◌, IfOk, OnOk, filter, if◌then◌else◌, option_map, option_to_list};
+ghost use Rattle.std.specs.Prelude.{◌≡◌, ◌++◌, ◌∷◌, [], IfOk, OnOk, filter, if◌then◌else◌, length, nat_eq, option_map, option_to_list};
 ghost use Rattle.oxt_tree.specs.Fields.{named, text_in};
 ghost use Rattle.oxt_tree.specs.View.{docs_in, node_doc, part_doc};
 ghost use Rattle.oxt_uid.specs.Made.{all_added, added, is_among};
-ghost use Rattle.oxt_forms.specs.Facts.{bindings, bindings_of_each, is_made, is_new, of_output, of_source, own_binding};
+ghost use Rattle.oxt_forms.specs.Facts.{bindings, bindings_of_each, in_class, is_made, is_new, of_output, of_source, own_binding};
+ghost use Rattle.oxt_forms.specs.Privates.{stored_by, stored_in};
+ghost use Rattle.oxt_forms.specs.Shared.{all_shared, names_shared};
 
+use crate::privates::ClassPrivates;
 use oxt_table::kind::Kind;
 use oxt_tree::ids::OutOfMemory;
 use oxt_tree::tree::{Node, Part};
 use oxt_uid::uid::UidNames;
 use std::alloc::Global;
 use std::marker::Model;
+use std::rc::Rc;
 
 /// What is known of the names of a tree that is read.
 #[derive(Drop)]
 pub struct Facts {
     alloc: Global,
     is_source: bool,
-    made: UidNames,
+    made: Option<Rc<UidNames>>,
+    classes: Vec<Rc<ClassPrivates>>,
 }
 
 impl Model for Facts {
     ghost use Rattle.oxt_forms.specs.Facts.{Known};
+    ghost use Rattle.oxt_forms.specs.Shared.{all_shared, names_shared};
 
     ghost Value = { Known };
 
-    ghost view = { λ facts. record { is_source = facts.is_source; made = facts.made } };
+    ghost view = { λ facts. record { is_source = facts.is_source; made = names_shared facts.made; classes = all_shared facts.classes.items } };
 }
 
 impl Facts {
@@ -36,7 +42,8 @@ impl Facts {
         Facts {
             alloc,
             is_source: true,
-            made: UidNames::new(alloc),
+            made: None,
+            classes: Vec::new(alloc),
         }
     }
 
@@ -54,7 +61,8 @@ impl Facts {
         Ok(Facts {
             alloc,
             is_source: false,
-            made,
+            made: Some(Rc::new(alloc, made)?),
+            classes: Vec::new(alloc),
         })
     }
 
@@ -75,10 +83,106 @@ impl Facts {
         ensures { result ≡ is_made self.now (part_doc part.now) }
     {
         match part {
-            Part::Text(name) => self.made.has(name.as_str()),
-            Part::Word(word) => self.made.has(word.text()),
+            Part::Text(name) => self.has_made(name.as_str()),
+            Part::Word(word) => self.has_made(word.text()),
             _ => false,
         }
+    }
+
+    /// Whether the name is made.
+    fn has_made(&self, name: &str) -> bool
+        ensures { result ≡ is_among name.now self.now.made }
+    {
+        match &self.made {
+            Some(made) => made.has(name),
+            None => false,
+        }
+    }
+
+    /// The same inside a class that has these private names.
+    ///
+    /// # Errors
+    ///
+    /// Fails only where memory runs out.
+    pub fn in_class(&self, class: ClassPrivates) -> Result<Facts, OutOfMemory>
+        ensures { IfOk result (λ facts. facts ≡ in_class class self.now) }
+    {
+        Ok(Facts {
+            alloc: self.alloc,
+            is_source: self.is_source,
+            made: shared_again(&self.made)?,
+            classes: with_class(self.alloc, &self.classes, class)?,
+        })
+    }
+
+    /// Whether no class stands around the place, as far as is known.
+    pub fn is_outside(&self) -> bool
+        ensures { result ≡ nat_eq (length self.now.classes) 0 }
+    {
+        self.classes.is_empty()
+    }
+
+    /// The made name whose accessor the private name stores, in the innermost class that has it.
+    pub fn stored_by<'a>(&self, name: &'a str) -> Option<&'a str>
+        ensures { option_map (λ made. made.now) result ≡ stored_by self.now.classes name.now }
+    {
+        look_inwards(self.classes.as_slice(), name)
+    }
+}
+
+/// What the innermost of the classes that has the private name says of it.
+#[tactic(auto, using(crate::proofs::Shares::steps))]
+fn look_inwards<'a>(classes: &[Rc<ClassPrivates>], name: &'a str) -> Option<&'a str>
+    ensures { option_map (λ made. made.now) result ≡ stored_by (all_shared classes.now) name.now }
+{
+    let mut found = None;
+    for class in classes {
+        found = said_by(class, name, found);
+    }
+    found
+}
+
+/// What the class says of the private name, and that if the class does not have it.
+fn said_by<'a>(class: &ClassPrivates, name: &'a str, outer: Option<&'a str>) -> Option<&'a str>
+    ensures { option_map (λ made. made.now) result
+        ≡ stored_in name.now (option_map (λ made. made.now) outer.entry) class.now }
+{
+    if class.has(name) {
+        class.made_of(name)
+    } else {
+        outer
+    }
+}
+
+/// The classes and that one inside them.
+#[tactic(auto, using(crate::proofs::Shares::one_more))]
+fn with_class(
+    alloc: Global,
+    classes: &Vec<Rc<ClassPrivates>>,
+    class: ClassPrivates,
+) -> Result<Vec<Rc<ClassPrivates>>, OutOfMemory>
+    ensures { IfOk result (λ v. all_shared v.items ≡ all_shared classes.now.items ++ class ∷ []) }
+{
+    let mut more = shared_classes(classes)?;
+    more.push(Rc::new(alloc, class)?)?;
+    Ok(more)
+}
+
+/// Other references to the same classes.
+#[tactic(auto, using(crate::proofs::Shares::same_shared))]
+fn shared_classes(classes: &Vec<Rc<ClassPrivates>>) -> Result<Vec<Rc<ClassPrivates>>, OutOfMemory>
+    ensures { IfOk result (λ v. all_shared v.items ≡ all_shared classes.now.items) }
+{
+    Ok(classes.clone()?)
+}
+
+/// Another reference to the same names.
+fn shared_again(names: &Option<Rc<UidNames>>) -> Result<Option<Rc<UidNames>>, OutOfMemory>
+    ensures { IfOk result (λ again. names_shared again ≡ names_shared names.now) }
+{
+    match names {
+        Some(names) => Ok(Some(names.clone()?)),
+        None => Ok(None),
     }
 }
 

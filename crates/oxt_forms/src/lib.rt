@@ -7,5 +7,6 @@ pub mod forms;
 pub mod made;
 mod mentions;
 pub mod passing;
+pub mod privates;
 #[cfg(test)]
 mod tests;

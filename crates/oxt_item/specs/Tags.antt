@@ -11,6 +11,7 @@ use Rattle.oxt_item.specs.declared.item.Mark.TheVariants as mark
 -- the items that stand for a made name
 abbrev pub is_tagged : Mark → Bool
 is_tagged mark.Made = true
+is_tagged mark.PrivateMade = true
 is_tagged mark.Keep = true
 is_tagged mark.BindMade = true
 is_tagged mark.InMade = true

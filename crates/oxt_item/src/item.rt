@@ -24,6 +24,8 @@ pub enum Mark {
     Num,
     /// A private name.
     Private,
+    /// The private name that stores what an accessor with a made name as its key holds, by its tag.
+    PrivateMade,
     /// The empty object.
     New,
     /// `this`.
@@ -86,6 +88,7 @@ impl Mark {
             Mark::Str => "Str",
             Mark::Num => "Num",
             Mark::Private => "Private",
+            Mark::PrivateMade => "PrivateMade",
             Mark::New => "New",
             Mark::This => "This",
             Mark::Name => "Name",

@@ -84,7 +84,7 @@ fn is_tagged(mark: Mark) -> bool
     ensures { result ≡ is_tagged mark }
 {
     match mark {
-        Mark::Made | Mark::Keep | Mark::BindMade | Mark::InMade => true,
+        Mark::Made | Mark::PrivateMade | Mark::Keep | Mark::BindMade | Mark::InMade => true,
         _ => false,
     }
 }

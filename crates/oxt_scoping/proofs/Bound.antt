@@ -1,5 +1,5 @@
 -- The table of a scope's bindings, as contracts see it.
-use Rattle.std.proofs.Common.{◌≡◌, refl, ap, ◌∙◌, ℕ, List, [], ◌∷◌, Bool, true, false, cond, Option, Some, String, string_bytes}
+use Rattle.std.proofs.Common.{◌≡◌, refl, ap, ◌∙◌, ℕ, List, [], ◌∷◌, Bool, true, false, cond, filter, Option, Some, String, string_bytes}
 use Rattle.std.specs.Map.{lookup, remove_entry}
 use Rattle.std.specs.Str.{bytes_eq}
 use Rattle.std.specs.String.{string_eq}
@@ -34,6 +34,15 @@ bound_removed t (e ∷ es) = by (bytes_eq t (string_bytes e.0)) (bound_removed t
         → spelled (cond b es (e ∷ remove_entry (λ k. bytes_eq t (string_bytes k)) es)) ≡ cond b (spelled es) ((string_bytes e.0, e.1) ∷ unbind t (spelled es))
     by true rest = refl
     by false rest = ap (λ bs. (string_bytes e.0, e.1) ∷ bs) rest
+
+pub bound_kept : (p : SymbolId → Bool) (es : List Entry) → spelled (filter (λ e. p e.1) es) ≡ filter (λ b. p b.1) (spelled es)
+bound_kept p [] = refl
+bound_kept p (e ∷ es) = by (p e.1) (bound_kept p es)
+  where
+    by : (b : Bool) → spelled (filter (λ e. p e.1) es) ≡ filter (λ b. p b.1) (spelled es)
+        → spelled (cond b (e ∷ filter (λ e. p e.1) es) (filter (λ e. p e.1) es)) ≡ cond b ((string_bytes e.0, e.1) ∷ filter (λ b. p b.1) (spelled es)) (filter (λ b. p b.1) (spelled es))
+    by true rest = ap (λ bs. (string_bytes e.0, e.1) ∷ bs) rest
+    by false rest = rest
 
 abbrev changed : (Bindings → Bindings) → ScopeData → ScopeData
 changed f s = record { parent = s.parent; flags = s.flags; bindings = f s.bindings }

@@ -1,4 +1,5 @@
 pub mod Bound
 pub mod Changes
+pub mod Enums
 pub mod Lent
 pub mod Sound

@@ -1,17 +1,19 @@
 -- What holds of every table of scopes, and that each change keeps it.
-use Rattle.std.proofs.Common.{◌≡◌, refl, sym, ap, subst, ◌∙◌, ℕ, zero, suc, ◌<◌, ◌≤◌, List, [], ◌∷◌, ◌++◌, length, Bool, true, false, cond, Option, Some, None, IfSome, arith}
+use Rattle.std.proofs.Common.{◌≡◌, refl, sym, ap, subst, ◌∙◌, ℕ, zero, suc, ◌<◌, ◌≤◌, List, [], ◌∷◌, ◌++◌, length, map, filter, Bool, true, false, cond, Option, Some, None, IfSome, arith}
+use Rattle.std.proofs.lemmas.List.{length-map}
 use Rattle.std.specs.Prelude.{slice_get, nat_eq}
 use Rattle.std.specs.Map.{lookup, remove_entry}
 use Rattle.std.specs.Str.{bytes_eq}
 use Rattle.indexmap.specs.IndexMap.{insert_entry}
+use Rattle.oxt_symbol.specs.Constant.{Constant}
 use Rattle.oxt_symbol.specs.declared.flags.ScopeFlags.{ScopeFlags}
 use Rattle.oxt_symbol.specs.declared.ids.ReferenceId.{ReferenceId}
 use Rattle.oxt_symbol.specs.declared.ids.ScopeId.{ScopeId}
 use Rattle.oxt_symbol.specs.declared.ids.SymbolId.{SymbolId}
 use Rattle.oxt_scoping.specs.declared.entry.Slot.{Slot}
 use Rattle.oxt_scoping.specs.declared.scoping.Scoping.TheInside.{Inside}
-use Rattle.oxt_scoping.specs.Entries.{ScopeData, SymbolData, bind, bound_to}
-use Rattle.oxt_scoping.specs.Scoped.{Each, IsScopeOf, IsSound, Scoped, bound_at, changed_at, first_of, found_from, found_within, meant_by, forgotten_by, unbound_at, with_scope_flags}
+use Rattle.oxt_scoping.specs.Entries.{ScopeData, SymbolData, bind, bound_to, keeping}
+use Rattle.oxt_scoping.specs.Scoped.{Each, IsScopeOf, IsSound, Scoped, bound_at, changed_at, first_of, found_from, found_within, meant_by, forgotten_by, stays, unbound_at, values_alone, with_body_at, with_scope_flags, with_value_at}
 
 -- what contracts see of these fields
 abbrev pub table_of : Inside → Scoped
@@ -122,6 +124,7 @@ sound_scope s x p xs h parent bindings outer is =
       rooted = omega arith;
       scopes = subst (Each (IsScopeOf (length xs) (length s.symbols))) (sym is) (each_push _ s.scopes x (scopes_more _ _ _ _ s.scopes (omega arith) (omega arith) h.scopes) own);
       symbols = each_more _ _ s.symbols (λ y k. omega arith) h.symbols;
+      bodies = each_more _ _ s.symbols (λ y k. each_more _ _ y.bodies (λ z j. omega arith) k) h.bodies;
       opened = each_more _ _ s.opened (λ e k. omega arith) h.opened;
       declared = h.declared;
       named = h.named;
@@ -130,9 +133,9 @@ sound_scope s x p xs h parent bindings outer is =
 -- other bindings of one scope
 pub sound_scopes : (s : Scoped) (xs : List ScopeData) → IsSound s → length xs ≡ length s.scopes → Each (IsScopeOf (length s.scopes) (length s.symbols)) xs → IsSound (record s { scopes = xs })
 sound_scopes s xs h same each =
-    subst (λ n. (0 < n) × Each (IsScopeOf n (length s.symbols)) xs × Each (λ y. y.scope.0 < n) s.symbols × Each (λ e. e.1.0 < n) s.opened → IsSound (record s { scopes = xs })) same
-    (λ k. record { rooted = k.0; scopes = k.1; symbols = k.2; opened = k.3; declared = h.declared; named = h.named })
-    (h.rooted, each, h.symbols, h.opened)
+    subst (λ n. (0 < n) × Each (IsScopeOf n (length s.symbols)) xs × Each (λ y. y.scope.0 < n) s.symbols × Each (λ e. e.1.0 < n) s.opened × Each (λ y. Each (λ x. x.0 < n) y.bodies) s.symbols → IsSound (record s { scopes = xs })) same
+    (λ k. record { rooted = k.0; scopes = k.1; symbols = k.2; bodies = k.4; opened = k.3; declared = h.declared; named = h.named })
+    (h.rooted, each, h.symbols, h.opened, h.bodies)
 
 -- other flags of a scope
 pub sound_flagged : (s : Scoped) (i : ℕ) (f : ScopeFlags) (xs : List ScopeData) → IsSound s → xs ≡ with_scope_flags i f s.scopes → IsSound (record s { scopes = xs })
@@ -147,6 +150,24 @@ sound_unbound s i t xs h is =
     (subst (Each (IsScopeOf (length s.scopes) (length s.symbols))) (sym is)
     (each_changed _ _ s.scopes i (λ x k. record { inside = k.inside; binds = each_removed _ (bytes_eq t) x.bindings k.binds }) h.scopes))
 
+each_kept : {A : Type 0} (P : A → Type 0) (test : A → Bool) (xs : List A) → Each P xs → Each P (filter test xs)
+each_kept P test [] h = tt
+each_kept P test (x ∷ xs) h = by (test x) (each_kept P test xs h.1)
+  where
+    by : (b : Bool) → Each P (filter test xs) → Each P (cond b (x ∷ filter test xs) (filter test xs))
+    by true rest = (h.0, rest)
+    by false rest = rest
+
+scopes_kept : (n m : ℕ) (p : SymbolId → Bool) (xs : List ScopeData) → Each (IsScopeOf n m) xs → Each (IsScopeOf n m) (map (keeping p) xs)
+scopes_kept n m p [] h = tt
+scopes_kept n m p (x ∷ xs) h = (record { inside = h.0.inside; binds = each_kept _ (λ b. p b.1) x.bindings h.0.binds }, scopes_kept n m p xs h.1)
+
+-- bindings of values alone
+pub sound_values : (s : Scoped) (xs : List ScopeData) → IsSound s → xs ≡ values_alone s.symbols s.scopes → IsSound (record s { scopes = xs })
+sound_values s xs h is =
+    sound_scopes s xs h (ap length is ∙ length-map s.scopes _)
+    (subst (Each (IsScopeOf (length s.scopes) (length s.symbols))) (sym is) (scopes_kept _ _ (stays s.symbols) s.scopes h.scopes))
+
 -- one scope more, which a node opens
 pub sound_opened : (s : Scoped) (n : ℕ) (i : ScopeId) (x : ScopeData) (p : ScopeId) (xs : List ScopeData) (es : List (ℕ × ScopeId)) → IsSound s → x.parent ≡ Some p → x.bindings ≡ [] → p.0 < length s.scopes → i.0 ≡ length s.scopes → xs ≡ s.scopes ++ x ∷ []
     → es ≡ insert_entry nat_eq s.opened n i → IsSound (record s { scopes = xs; opened = es })
@@ -157,14 +178,15 @@ sound_opened s n i x p xs es h parent bindings outer number is put =
       rooted = k.rooted;
       scopes = k.scopes;
       symbols = k.symbols;
+      bodies = k.bodies;
       opened = subst (Each (λ e. e.1.0 < length xs)) (sym put) (each_inserted (λ (j : ScopeId). j.0 < length xs) nat_eq s.opened n i k.opened (omega arith));
       declared = k.declared;
       named = k.named;
     }
 
 -- other symbols, as many and in the same scopes
-pub sound_symbols : (s : Scoped) (f : SymbolData → SymbolData) (i : ℕ) (ys : List SymbolData) → IsSound s → ((y : SymbolData) → (f y).scope ≡ y.scope) → ys ≡ changed_at i f s.symbols → IsSound (record s { symbols = ys })
-sound_symbols s f i ys h same is =
+pub sound_symbols : (s : Scoped) (f : SymbolData → SymbolData) (i : ℕ) (ys : List SymbolData) → IsSound s → ((y : SymbolData) → (f y).scope ≡ y.scope) → ((y : SymbolData) → Each (λ x. x.0 < length s.scopes) y.bodies → Each (λ x. x.0 < length s.scopes) (f y).bodies) → ys ≡ changed_at i f s.symbols → IsSound (record s { symbols = ys })
+sound_symbols s f i ys h same inner is =
     let long : length ys ≡ length s.symbols = ap length is ∙ length_changed f s.symbols i in
     let each : Each (λ y. y.scope.0 < length s.scopes) ys =
     subst (Each (λ y. y.scope.0 < length s.scopes)) (sym is) (each_changed _ f s.symbols i (λ y k. subst (λ (x : ScopeId). x.0 < length s.scopes) (sym (same y)) k) h.symbols) in
@@ -172,30 +194,32 @@ sound_symbols s f i ys h same is =
       rooted = h.rooted;
       scopes = scopes_more _ _ _ _ s.scopes (omega arith) (omega arith) h.scopes;
       symbols = each;
+      bodies = subst (Each (λ y. Each (λ x. x.0 < length s.scopes) y.bodies)) (sym is) (each_changed _ f s.symbols i inner h.bodies);
       opened = h.opened;
       declared = each_more _ _ s.declared (λ e k. omega arith) h.declared;
       named = h.named;
     }
 
 -- a declaration more of a symbol
-pub sound_declared : (s : Scoped) (f : SymbolData → SymbolData) (i : SymbolId) (n : ℕ) (ys : List SymbolData) (es : List (ℕ × SymbolId)) → IsSound s → ((y : SymbolData) → (f y).scope ≡ y.scope) → i.0 < length s.symbols → ys ≡ changed_at i.0 f s.symbols
+pub sound_declared : (s : Scoped) (f : SymbolData → SymbolData) (i : SymbolId) (n : ℕ) (ys : List SymbolData) (es : List (ℕ × SymbolId)) → IsSound s → ((y : SymbolData) → (f y).scope ≡ y.scope) → ((y : SymbolData) → (f y).bodies ≡ y.bodies) → i.0 < length s.symbols → ys ≡ changed_at i.0 f s.symbols
     → es ≡ insert_entry nat_eq s.declared n i → IsSound (record s { symbols = ys; declared = es })
-sound_declared s f i n ys es h same live is put =
-    let k : IsSound (record s { symbols = ys }) = sound_symbols s f i.0 ys h same is in
+sound_declared s f i n ys es h same kept live is put =
+    let k : IsSound (record s { symbols = ys }) = sound_symbols s f i.0 ys h same (λ y j. subst (Each (λ x. x.0 < length s.scopes)) (sym (kept y)) j) is in
     let long : length ys ≡ length s.symbols = ap length is ∙ length_changed f s.symbols i.0 in
     record {
       rooted = k.rooted;
       scopes = k.scopes;
       symbols = k.symbols;
+      bodies = k.bodies;
       opened = k.opened;
       declared = subst (Each (λ e. e.1.0 < length ys)) (sym put) (each_inserted (λ (j : SymbolId). j.0 < length ys) nat_eq s.declared n i k.declared (omega arith));
       named = k.named;
     }
 
 -- one symbol more, which its scope binds
-pub sound_symbol : (s : Scoped) (n : ℕ) (i : SymbolId) (t : List ℕ) (y : SymbolData) (xs : List ScopeData) (ys : List SymbolData) (es : List (ℕ × SymbolId)) → IsSound s → y.scope.0 < length s.scopes → i.0 ≡ length s.symbols
+pub sound_symbol : (s : Scoped) (n : ℕ) (i : SymbolId) (t : List ℕ) (y : SymbolData) (xs : List ScopeData) (ys : List SymbolData) (es : List (ℕ × SymbolId)) → IsSound s → y.scope.0 < length s.scopes → y.bodies ≡ [] → i.0 ≡ length s.symbols
     → xs ≡ bound_at y.scope.0 t i s.scopes → ys ≡ s.symbols ++ y ∷ [] → es ≡ insert_entry nat_eq s.declared n i → IsSound (record s { scopes = xs; symbols = ys; declared = es })
-sound_symbol s n i t y xs ys es h inside number bound is put =
+sound_symbol s n i t y xs ys es h inside empty number bound is put =
     let more : length ys ≡ suc (length s.symbols) = ap length is ∙ length_push s.symbols y in
     let long : length xs ≡ length s.scopes = ap length bound ∙ length_changed _ s.scopes y.scope.0 in
     let before : Each (IsScopeOf (length xs) (length ys)) s.scopes = scopes_more _ _ _ _ s.scopes (omega arith) (omega arith) h.scopes in
@@ -206,6 +230,8 @@ sound_symbol s n i t y xs ys es h inside number bound is put =
           (each_changed (IsScopeOf (length xs) (length ys)) (λ x. record x { bindings = bind t i x.bindings }) s.scopes y.scope.0
           (λ x k. record { inside = k.inside; binds = each_inserted (λ (j : SymbolId). j.0 < length ys) bytes_eq x.bindings t i k.binds live }) before);
       symbols = subst (Each (λ z. z.scope.0 < length xs)) (sym is) (each_push _ s.symbols y (each_more _ _ s.symbols (λ z k. omega arith) h.symbols) (omega arith));
+      bodies = subst (Each (λ z. Each (λ x. x.0 < length xs) z.bodies)) (sym is)
+          (each_push _ s.symbols y (each_more _ _ s.symbols (λ z k. each_more _ _ z.bodies (λ x j. omega arith) k) h.bodies) (subst (Each (λ x. x.0 < length xs)) (sym empty) tt));
       opened = each_more _ _ s.opened (λ e k. omega arith) h.opened;
       declared = subst (Each (λ e. e.1.0 < length ys)) (sym put) (each_inserted (λ (j : SymbolId). j.0 < length ys) nat_eq s.declared n i (each_more _ _ s.declared (λ e k. omega arith) h.declared) live);
       named = h.named;
@@ -217,6 +243,7 @@ sound_references s rs h same = record {
   rooted = h.rooted;
   scopes = h.scopes;
   symbols = h.symbols;
+  bodies = h.bodies;
   opened = h.opened;
   declared = h.declared;
   named = each_more _ _ s.named (λ e k. omega arith) h.named;
@@ -231,6 +258,7 @@ sound_reference s n i r rs es h number is put =
       rooted = h.rooted;
       scopes = h.scopes;
       symbols = h.symbols;
+      bodies = h.bodies;
       opened = h.opened;
       declared = h.declared;
       named = subst (Each (λ e. e.1.0 < length rs)) (sym put) (each_inserted (λ (j : ReferenceId). j.0 < length rs) nat_eq s.named n i (each_more _ _ s.named (λ e k. omega arith) h.named) (omega arith));
@@ -239,8 +267,20 @@ sound_reference s n i r rs es h number is put =
 -- what means a symbol, and no longer does, is no part of that
 pub sound_meant : (s : Scoped) (r : ReferenceId) (o : Option SymbolId) (ys : List SymbolData) → IsSound s → ys ≡ meant_by r o s.symbols → IsSound (record s { symbols = ys })
 sound_meant s r None ys h is = subst (λ zs. IsSound (record s { symbols = zs })) (sym is) h
-sound_meant s r (Some i) ys h is = sound_symbols s _ i.0 ys h (λ y. refl) is
+sound_meant s r (Some i) ys h is = sound_symbols s _ i.0 ys h (λ y. refl) (λ y j. j) is
 
 pub sound_forgotten : (s : Scoped) (r : ReferenceId) (o : Option SymbolId) (ys : List SymbolData) → IsSound s → ys ≡ forgotten_by r o s.symbols → IsSound (record s { symbols = ys })
 sound_forgotten s r None ys h is = subst (λ zs. IsSound (record s { symbols = zs })) (sym is) h
-sound_forgotten s r (Some i) ys h is = sound_symbols s _ i.0 ys h (λ y. refl) is
+sound_forgotten s r (Some i) ys h is = sound_symbols s _ i.0 ys h (λ y. refl) (λ y j. j) is
+
+-- a body more of an enum
+pub sound_body : (s : Scoped) (i : ℕ) (x : ScopeId) (ys : List SymbolData) → IsSound s → x.0 < length s.scopes → ys ≡ with_body_at i x s.symbols → IsSound (record s { symbols = ys })
+sound_body s i x ys h live is = sound_symbols s (λ y. record y { bodies = y.bodies ++ x ∷ [] }) i ys h (λ y. refl) (λ y j. each_push _ y.bodies x j live) is
+
+-- the constant of a member
+pub sound_value : (s : Scoped) (i : ℕ) (v : Constant) (ys : List SymbolData) → IsSound s → ys ≡ with_value_at i v s.symbols → IsSound (record s { symbols = ys })
+sound_value s i v ys h is = sound_symbols s (λ y. record y { value = Some v }) i ys h (λ y. refl) (λ y j. j) is
+
+-- what is known of the bodies of a symbol
+pub bodies_live : (s : Scoped) (i : ℕ) (y : SymbolData) → slice_get s.symbols i ≡ Some y → IsSound s → Each (λ x. x.0 < length s.scopes) y.bodies
+bodies_live s i y at h = each_at (λ (z : SymbolData). Each (λ x. x.0 < length s.scopes) z.bodies) s.symbols i y at h.bodies

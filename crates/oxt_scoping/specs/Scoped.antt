@@ -1,5 +1,5 @@
 -- The scopes, symbols and references of a program, each known by its place in its list.
-use Rattle.std.specs.Prelude.{ℕ, zero, suc, List, [], ◌∷◌, ◌++◌, length, true, false, ◌<◌, nat_eq, if◌then◌else◌, Option, None, Some, IfSome, slice_get}
+use Rattle.std.specs.Prelude.{ℕ, zero, suc, List, [], ◌∷◌, ◌++◌, length, map, Bool, true, false, ◌<◌, nat_eq, if◌then◌else◌, Option, None, Some, IfSome, slice_get}
 use Rattle.std.specs.Map.{lookup}
 use Rattle.indexmap.specs.IndexMap.{insert_entry}
 use Rattle.oxt_tree.specs.declared.ids.NodeId.{NodeId}
@@ -8,10 +8,11 @@ use Rattle.oxt_symbol.specs.declared.flags.SymbolFlags.{SymbolFlags}
 use Rattle.oxt_symbol.specs.declared.ids.ReferenceId.{ReferenceId}
 use Rattle.oxt_symbol.specs.declared.ids.ScopeId.{ScopeId}
 use Rattle.oxt_symbol.specs.declared.ids.SymbolId.{SymbolId}
+use Rattle.oxt_symbol.specs.Constant.{Constant}
 use Rattle.oxt_scoping.specs.declared.entry.Redeclaration.{Redeclaration}
 use Rattle.oxt_scoping.specs.declared.entry.Reference.{Reference}
 use Rattle.oxt_scoping.specs.declared.entry.Slot.{Slot}
-use Rattle.oxt_scoping.specs.Entries.{ScopeData, SymbolData, bind, bound_to, unbind, without}
+use Rattle.oxt_scoping.specs.Entries.{ScopeData, SymbolData, bind, bound_to, is_value, keeping, unbind, without}
 
 -- the scopes, the symbols and the references; by the number of a node the scope that it opens, the
 -- symbol that it declares and the reference that was last made of it; and the names that are taken
@@ -86,7 +87,20 @@ with_scope_flags i f xs = changed_at i (λ x. record x { flags = f }) xs
 
 -- a symbol with one declaration, which nothing means
 abbrev pub new_symbol : List ℕ → ScopeId → SymbolFlags → Redeclaration → SymbolData
-new_symbol t x f d = record { name = t; scope = x; flags = f; declarations = d ∷ []; references = [] }
+new_symbol t x f d = record { name = t; scope = x; flags = f; declarations = d ∷ []; references = []; bodies = []; value = None }
+
+-- the symbol is a value that is not ambient
+abbrev pub is_value_symbol : Option SymbolData → Bool
+is_value_symbol None = false
+is_value_symbol (Some y) = is_value y.flags
+
+-- the same of the symbol of that number
+abbrev pub stays : List SymbolData → SymbolId → Bool
+stays ys i = is_value_symbol (slice_get ys i.0)
+
+-- the scopes with the bindings of values alone
+abbrev pub values_alone : List SymbolData → List ScopeData → List ScopeData
+values_alone ys xs = map (keeping (stays ys)) xs
 
 -- the symbols with those flags of the one at that place
 abbrev pub with_symbol_flags : ℕ → SymbolFlags → List SymbolData → List SymbolData
@@ -95,6 +109,14 @@ with_symbol_flags i f ys = changed_at i (λ y. record y { flags = f }) ys
 -- the symbols with that declaration of the one at that place behind its others
 abbrev pub declared_again : ℕ → Redeclaration → List SymbolData → List SymbolData
 declared_again i d ys = changed_at i (λ y. record y { declarations = y.declarations ++ d ∷ [] }) ys
+
+-- the symbols with that scope of a body of the one at that place behind its others
+abbrev pub with_body_at : ℕ → ScopeId → List SymbolData → List SymbolData
+with_body_at i x ys = changed_at i (λ y. record y { bodies = y.bodies ++ x ∷ [] }) ys
+
+-- the symbols with that constant of the one at that place
+abbrev pub with_value_at : ℕ → Constant → List SymbolData → List SymbolData
+with_value_at i v ys = changed_at i (λ y. record y { value = Some v }) ys
 
 -- the symbols, one of which that reference means, if it means any
 abbrev pub meant_by : ReferenceId → Option SymbolId → List SymbolData → List SymbolData
@@ -199,6 +221,7 @@ pub record IsSound (s : Scoped) : Type 0 where
   pub rooted : 0 < length s.scopes
   pub scopes : Each (IsScopeOf (length s.scopes) (length s.symbols)) s.scopes
   pub symbols : Each (λ y. y.scope.0 < length s.scopes) s.symbols
+  pub bodies : Each (λ y. Each (λ x. x.0 < length s.scopes) y.bodies) s.symbols
   pub opened : Each (λ e. e.1.0 < length s.scopes) s.opened
   pub declared : Each (λ e. e.1.0 < length s.symbols) s.declared
   pub named : Each (λ e. e.1.0 < length s.references) s.named

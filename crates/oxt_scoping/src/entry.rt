@@ -1,9 +1,14 @@
 //! What is kept of a scope, of a symbol and of a reference.
-ghost use Rattle.std.specs.Prelude.{◌≡◌, ◌++◌, ◌∷◌, [], IfOk, OnErr, OnOk, string_bytes};
-ghost use Rattle.oxt_scoping.specs.Entries.{bind, bound_to, unbind, without};
+ghost use Rattle.std.specs.Int.RustNames.{bit_or};
+ghost use Rattle.std.specs.Prelude.{◌≡◌, ◌++◌, ◌∷◌, [], IfOk, None, OnErr, OnOk, Some, filter, option_map, string_bytes};
+ghost use Rattle.oxt_scoping.specs.Entries.{bind, begins_const, bound_to, is_enum, is_value, keeping, unbind, value_bits, without};
+ghost use Rattle.oxt_scoping.specs.Scoped.{stays};
+ghost use Rattle.oxt_symbol.specs.Constant.{constant_view};
 ghost use Rattle.oxt_tree.specs.Names.{name_bytes};
 
+use bitflags::Flags;
 use indexmap::IndexMap;
+use oxt_symbol::constant::ConstantValue;
 use oxt_symbol::flags::{ReferenceFlags, ScopeFlags, SymbolFlags};
 use oxt_symbol::ids::{ReferenceId, ScopeId, SymbolId};
 use oxt_tree::ids::{NodeId, OutOfMemory};
@@ -110,6 +115,14 @@ impl ScopeEntry {
         Ok(())
     }
 
+    /// Binds no longer what is a type alone, or ambient.
+    pub fn keep_values(&mut self, symbols: &[SymbolEntry])
+        ensures { self.new ≡ keeping (stays symbols.now) self.old }
+    {
+        let bindings = &mut self.bindings;
+        keep_bound_values(bindings, symbols);
+    }
+
     /// Binds the spelling to nothing.
     pub fn unbind(&mut self, name: &str)
         ensures { self.new ≡ record self.old { bindings = unbind name.now self.old.bindings } }
@@ -126,15 +139,19 @@ pub struct SymbolEntry {
     flags: SymbolFlags,
     declarations: Vec<Redeclaration>,
     references: Vec<ReferenceId>,
+    bodies: Vec<ScopeId>,
+    value: Option<ConstantValue>,
 }
 
 impl Model for SymbolEntry {
     ghost use Rattle.oxt_scoping.specs.Entries.{SymbolData};
+    ghost use Rattle.oxt_symbol.specs.Constant.{constant_view};
     ghost use Rattle.oxt_tree.specs.Names.{name_bytes};
+    ghost use Rattle.std.specs.Prelude.{option_map};
 
     ghost Value = { SymbolData };
 
-    ghost view = { λ s. record { name = name_bytes s.name; scope = s.scope; flags = s.flags; declarations = s.declarations.items; references = s.references.items } };
+    ghost view = { λ s. record { name = name_bytes s.name; scope = s.scope; flags = s.flags; declarations = s.declarations.items; references = s.references.items; bodies = s.bodies.items; value = option_map constant_view s.value } };
 }
 
 impl SymbolEntry {
@@ -149,7 +166,7 @@ impl SymbolEntry {
         flags: SymbolFlags,
         declaration: Redeclaration,
     ) -> Result<SymbolEntry, OutOfMemory>
-        ensures { IfOk result (λ made. made ≡ record { name = name_bytes name.now; scope = scope; flags = flags; declarations = declaration ∷ []; references = [] }) }
+        ensures { IfOk result (λ made. made ≡ record { name = name_bytes name.now; scope = scope; flags = flags; declarations = declaration ∷ []; references = []; bodies = []; value = None }) }
     {
         let mut declarations = Vec::new(alloc);
         declarations.push(declaration)?;
@@ -159,6 +176,8 @@ impl SymbolEntry {
             flags,
             declarations,
             references: Vec::new(alloc),
+            bodies: Vec::new(alloc),
+            value: None,
         })
     }
 
@@ -205,6 +224,37 @@ impl SymbolEntry {
         self.references.as_slice()
     }
 
+    /// The scopes of the bodies of an enum, in the order of the text.
+    pub fn bodies(&self) -> &[ScopeId]
+        ensures { result.now ≡ self.now.bodies }
+    {
+        self.bodies.as_slice()
+    }
+
+    /// The constant of a member of an enum.
+    pub fn value(&self) -> Option<&ConstantValue>
+        ensures { option_map (λ v. constant_view v.now) result ≡ self.now.value }
+    {
+        self.value.as_ref()
+    }
+
+    /// Appends the scope of a body.
+    pub fn push_body(&mut self, scope: ScopeId) -> Result<(), OutOfMemory>
+        ensures pushed { OnOk result
+            (self.new ≡ record self.old { bodies = self.old.bodies ++ scope ∷ [] }) }
+        ensures kept { OnErr result (self.new ≡ self.old) }
+    {
+        self.bodies.push(scope)?;
+        Ok(())
+    }
+
+    /// Gives it the constant.
+    pub fn set_value(&mut self, value: ConstantValue)
+        ensures { self.new ≡ record self.old { value = Some (constant_view value) } }
+    {
+        self.value = Some(value);
+    }
+
     /// Appends a declaration.
     pub fn push_declaration(&mut self, declaration: Redeclaration) -> Result<(), OutOfMemory>
         ensures pushed { OnOk result
@@ -238,4 +288,71 @@ fn retain_others(references: &mut Vec<ReferenceId>, reference: ReferenceId)
     ensures { references.new.items ≡ without reference references.old.items }
 {
     references.retain(|other| other.0 != reference.0);
+}
+
+/// Keeps the bindings whose symbols are values that are not ambient.
+fn keep_bound_values(bindings: &mut IndexMap<String, SymbolId>, symbols: &[SymbolEntry])
+    ensures { bindings.new.entries ≡ filter (λ e. stays symbols.now e.1) bindings.old.entries }
+{
+    bindings.retain(|_, symbol| is_value_symbol(symbols, *symbol));
+}
+
+/// Whether the symbol of that number is a value that is not ambient.
+fn is_value_symbol(symbols: &[SymbolEntry], symbol: SymbolId) -> bool
+    ensures { result ≡ stays symbols.now symbol }
+{
+    match symbols.get(symbol.0 as usize) {
+        Some(entry) => is_value(entry.flags()),
+        None => false,
+    }
+}
+
+/// Whether the flags are those of more than a type, and of nothing ambient.
+fn is_value(flags: SymbolFlags) -> bool
+    ensures { result ≡ is_value flags }
+{
+    flags.intersects(value_flags()) && !flags.intersects(SymbolFlags::Ambient)
+}
+
+/// The flags of what is more than a type.
+fn value_flags() -> SymbolFlags
+    ensures { result.0 ≡ value_bits }
+{
+    SymbolFlags::FunctionScopedVariable
+        .union(SymbolFlags::BlockScopedVariable)
+        .union(SymbolFlags::ConstVariable)
+        .union(SymbolFlags::Class)
+        .union(SymbolFlags::Function)
+        .union(SymbolFlags::Import)
+        .union(SymbolFlags::Enum)
+        .union(SymbolFlags::ConstEnum)
+        .union(SymbolFlags::EnumMember)
+        .union(SymbolFlags::ValueModule)
+}
+
+/// Whether the flags are those of an enum.
+pub fn is_enum(flags: SymbolFlags) -> bool
+    ensures { result ≡ is_enum flags }
+{
+    flags.intersects(enum_flags())
+}
+
+/// The flags of enums.
+fn enum_flags() -> SymbolFlags
+    ensures { result.0 ≡ bit_or 1024 2048 }
+{
+    SymbolFlags::Enum.union(SymbolFlags::ConstEnum)
+}
+
+/// Whether the first of the declarations that is a block of an enum is `const`.
+#[tactic(auto, using(crate::proofs::Enums::const_steps))]
+pub fn begins_const(declarations: &[Redeclaration]) -> bool
+    ensures { result ≡ begins_const declarations.now }
+{
+    for declaration in declarations {
+        if is_enum(declaration.flags) {
+            return declaration.flags.contains(SymbolFlags::ConstEnum);
+        }
+    }
+    false
 }

@@ -1,10 +1,12 @@
 //! Entries by their places.
 ghost use Rattle.std.specs.Prelude.{◌≡◌, ◌<◌, ◌++◌, ◌∷◌, [], IfSome, OnErr, OnOk, Some, is_some, length, nat_eq, slice_get, string_bytes, vec_capacity, vec_len};
 ghost use Rattle.indexmap.specs.IndexMap.{insert_entry, spare};
-ghost use Rattle.oxt_scoping.specs.Scoped.{bound_at, declared_again, deleted_at, forgotten_by, found_within, live_at, meant_at, meant_by, unbound_at};
+ghost use Rattle.oxt_scoping.specs.Scoped.{bound_at, declared_again, deleted_at, forgotten_by, found_within, live_at, meant_at, meant_by, unbound_at, values_alone, with_body_at, with_value_at};
+ghost use Rattle.oxt_symbol.specs.Constant.{constant_view};
 
 use crate::entry::{Redeclaration, ScopeEntry, Slot, SymbolEntry};
 use indexmap::IndexMap;
+use oxt_symbol::constant::ConstantValue;
 use oxt_symbol::ids::{ReferenceId, ScopeId, SymbolId};
 use oxt_tree::ids::{NodeId, OutOfMemory};
 
@@ -91,6 +93,16 @@ pub fn unbind_in(scopes: &mut Vec<ScopeEntry>, scope: ScopeId, name: &str)
     entry.unbind(name);
 }
 
+/// Binds in each scope no longer what is a type alone, or ambient.
+pub fn keep_values_in(scopes: &mut Vec<ScopeEntry>, symbols: &[SymbolEntry])
+    ensures { scopes.new.items ≡ values_alone symbols.now scopes.old.items }
+{
+    for i in 0..scopes.len() {
+        let entry = &mut scopes[i];
+        entry.keep_values(symbols);
+    }
+}
+
 /// Adds the declaration to the symbol.
 pub fn declare_in(
     symbols: &mut Vec<SymbolEntry>,
@@ -104,6 +116,29 @@ pub fn declare_in(
 {
     let entry = &mut symbols[symbol.0 as usize];
     entry.push_declaration(declaration)
+}
+
+/// Adds the scope of a body to the symbol.
+pub fn add_body_in(
+    symbols: &mut Vec<SymbolEntry>,
+    symbol: SymbolId,
+    scope: ScopeId,
+) -> Result<(), OutOfMemory>
+    requires { symbol.0 < length symbols.old.items }
+    ensures pushed { OnOk result (symbols.new.items ≡ with_body_at symbol.0 scope symbols.old.items) }
+    ensures kept { OnErr result (symbols.new.items ≡ symbols.old.items) }
+{
+    let entry = &mut symbols[symbol.0 as usize];
+    entry.push_body(scope)
+}
+
+/// Gives the symbol the constant.
+pub fn set_value_in(symbols: &mut Vec<SymbolEntry>, symbol: SymbolId, value: ConstantValue)
+    requires { symbol.0 < length symbols.old.items }
+    ensures { symbols.new.items ≡ with_value_at symbol.0 (constant_view value) symbols.old.items }
+{
+    let entry = &mut symbols[symbol.0 as usize];
+    entry.set_value(value);
 }
 
 /// Adds the reference to what means the symbol, if there is one.

@@ -1,15 +1,20 @@
 //! The table of a program's scopes, symbols and references.
 ghost use Rattle.std.specs.Prelude.{◌≡◌, ◌<◌, ◌++◌, ◌∷◌, [], IfOk, IfSome, IsSome, IsTrue, IsOk, None, OnErr, OnOk, Some, false, is_some, length, nat_lt, option_map, slice_get, true};
+ghost use Rattle.oxt_symbol.specs.Constant.{constant_view};
 ghost use Rattle.oxt_tree.specs.Names.{name_bytes};
 ghost use Rattle.oxt_uid.specs.Made.{is_among, made_name};
-ghost use Rattle.oxt_scoping.specs.Scoped.{at_node, binding_at, found_outwards, live_at, new_scope, new_symbol, still, unbound_at, with_declaration, with_opened_scope, with_reference, with_scope, with_symbol, without_reference};
+ghost use Rattle.oxt_scoping.specs.Entries.{begins_const, bodies_of};
+ghost use Rattle.oxt_scoping.specs.Scoped.{Each, at_node, binding_at, found_outwards, live_at, new_scope, new_symbol, still, unbound_at, values_alone, with_body_at, with_declaration, with_opened_scope, with_reference, with_scope, with_symbol, with_value_at, without_reference};
 
-use crate::entry::{Redeclaration, Reference, ScopeEntry, Slot, SymbolEntry};
+use crate::entry::{
+    Redeclaration, Reference, ScopeEntry, Slot, SymbolEntry, begins_const, is_enum,
+};
 use crate::places::{
-    bind_in, declare_in, delete_in, find_within, forget_in, is_live, push_reserved, put_reserved,
-    refer_in, scope_at, slot_at, symbol_at, unbind_in,
+    add_body_in, bind_in, declare_in, delete_in, find_within, forget_in, is_live, keep_values_in,
+    push_reserved, put_reserved, refer_in, scope_at, set_value_in, slot_at, symbol_at, unbind_in,
 };
 use indexmap::IndexMap;
+use oxt_symbol::constant::ConstantValue;
 use oxt_symbol::flags::{ReferenceFlags, ScopeFlags, SymbolFlags};
 use oxt_symbol::ids::{ReferenceId, ScopeId, SymbolId};
 use oxt_tree::ids::{NodeId, OutOfMemory};
@@ -60,6 +65,33 @@ impl Scoping {
             symbols: Vec::new(alloc),
             references: Vec::new(alloc),
             opened: IndexMap::new(alloc),
+            declared: IndexMap::new(alloc),
+            named: IndexMap::new(alloc),
+            names,
+        })
+    }
+
+    /// The same, where that node opens the scope.
+    pub fn of_program(
+        alloc: Global,
+        flags: ScopeFlags,
+        node: NodeId,
+        names: UidNames,
+    ) -> Result<Scoping, OutOfMemory>
+        ensures { IfOk result
+            (λ made. made ≡ record { scopes = new_scope None flags ∷ []; symbols = []; references = []; opened = (node.0, record { 0 = 0 }) ∷ []; declared = []; named = []; taken = names }) }
+    {
+        let root = ScopeEntry::new(alloc, None, flags);
+        let mut scopes = Vec::new(alloc);
+        scopes.push(root)?;
+        let mut opened = IndexMap::new(alloc);
+        opened.insert(node.0, ScopeId(0))?;
+        Ok(Scoping {
+            alloc,
+            scopes,
+            symbols: Vec::new(alloc),
+            references: Vec::new(alloc),
+            opened,
             declared: IndexMap::new(alloc),
             named: IndexMap::new(alloc),
             names,
@@ -185,6 +217,39 @@ impl Scoping {
         symbol_at(self.symbols.as_slice(), symbol).references()
     }
 
+    /// The scopes of the bodies of the enum, in the order of the text; none exactly where the symbol is
+    /// no enum.
+    pub fn get_enum_body_scopes(&self, symbol: SymbolId) -> Option<&[ScopeId]>
+        requires { symbol.0 < length self.now.symbols }
+        ensures bodies { option_map bodies_of (slice_get self.now.symbols symbol.0)
+            ≡ Some (option_map (λ bodies. bodies.now) result) }
+        ensures live { IfSome result (λ bodies. Each (λ scope. scope.0 < length self.now.scopes) bodies.now) }
+    {
+        let entry = symbol_at(self.symbols.as_slice(), symbol);
+        if is_enum(entry.flags()) {
+            Some(entry.bodies())
+        } else {
+            None
+        }
+    }
+
+    /// The constant of the member of an enum; none where it is not constant.
+    pub fn get_enum_member_value(&self, symbol: SymbolId) -> Option<&ConstantValue>
+        requires { symbol.0 < length self.now.symbols }
+        ensures { option_map (λ y. y.value) (slice_get self.now.symbols symbol.0)
+            ≡ Some (option_map (λ v. constant_view v.now) result) }
+    {
+        symbol_at(self.symbols.as_slice(), symbol).value()
+    }
+
+    /// Whether the symbol is an enum whose first block is `const`.
+    pub fn is_const_enum(&self, symbol: SymbolId) -> bool
+        requires { symbol.0 < length self.now.symbols }
+        ensures { option_map (λ y. begins_const y.declarations) (slice_get self.now.symbols symbol.0) ≡ Some result }
+    {
+        begins_const(symbol_at(self.symbols.as_slice(), symbol).declarations())
+    }
+
     /// The reference.
     pub fn get_reference(&self, reference: ReferenceId) -> &Reference
         requires { IsSome (live_at self.now.references reference.0) }
@@ -248,7 +313,6 @@ impl Scoping {
     }
 
     /// Makes a symbol that the scope binds the name to and the node declares.
-    #[tactic(auto, using(crate::proofs::Sound::length_changed))]
     pub fn create_symbol(
         &mut self,
         name: &Name,
@@ -262,19 +326,37 @@ impl Scoping {
         ensures scopes_stay { length self.new.scopes ≡ length self.old.scopes }
         ensures kept { OnErr result (self.new ≡ self.old) }
     {
-        let symbol = SymbolId(self.symbols.len() as u64);
         let declaration = Redeclaration {
             node,
             flags,
             emits: true,
         };
+        self.declare_symbol(name, scope, flags, declaration)
+    }
+
+    /// Makes a symbol that the scope binds the name to, with that declaration.
+    #[tactic(auto, using(crate::proofs::Sound::length_changed))]
+    pub fn declare_symbol(
+        &mut self,
+        name: &Name,
+        scope: ScopeId,
+        flags: SymbolFlags,
+        declaration: Redeclaration,
+    ) -> Result<SymbolId, OutOfMemory>
+        requires { scope.0 < length self.old.scopes }
+        ensures number { IfOk result (λ symbol. symbol.0 ≡ length self.old.symbols) }
+        ensures made { IfOk result (λ symbol. self.new ≡ with_symbol declaration.node symbol (new_symbol (name_bytes name.now) scope flags declaration) self.old) }
+        ensures scopes_stay { length self.new.scopes ≡ length self.old.scopes }
+        ensures kept { OnErr result (self.new ≡ self.old) }
+    {
+        let symbol = SymbolId(self.symbols.len() as u64);
         let key = String::from_str(self.alloc, name.as_str())?;
         let entry = SymbolEntry::declared(self.alloc, name, scope, flags, declaration)?;
         self.symbols.reserve(1)?;
         self.declared.reserve(1)?;
         bind_in(&mut self.scopes, scope, key, symbol)?;
         push_reserved(&mut self.symbols, entry);
-        put_reserved(&mut self.declared, node, symbol);
+        put_reserved(&mut self.declared, declaration.node, symbol);
         Ok(symbol)
     }
 
@@ -294,6 +376,29 @@ impl Scoping {
         declare_in(&mut self.symbols, symbol, declaration)?;
         put_reserved(&mut self.declared, declaration.node, symbol);
         Ok(())
+    }
+
+    /// Adds the scope of a body to the enum.
+    #[tactic(auto, using(crate::proofs::Sound::length_changed))]
+    pub fn add_enum_body(&mut self, symbol: SymbolId, scope: ScopeId) -> Result<(), OutOfMemory>
+        requires symbol { symbol.0 < length self.old.symbols }
+        requires scope { scope.0 < length self.old.scopes }
+        ensures added { OnOk result (self.new ≡ record self.old { symbols = with_body_at symbol.0 scope self.old.symbols }) }
+        ensures symbols_stay { length self.new.symbols ≡ length self.old.symbols }
+        ensures kept { OnErr result (self.new ≡ self.old) }
+    {
+        add_body_in(&mut self.symbols, symbol, scope)?;
+        Ok(())
+    }
+
+    /// Gives the member of an enum the constant.
+    #[tactic(auto, using(crate::proofs::Sound::length_changed))]
+    pub fn set_enum_member_value(&mut self, symbol: SymbolId, value: ConstantValue)
+        requires { symbol.0 < length self.old.symbols }
+        ensures set { self.new ≡ record self.old { symbols = with_value_at symbol.0 (constant_view value) self.old.symbols } }
+        ensures symbols_stay { length self.new.symbols ≡ length self.old.symbols }
+    {
+        set_value_in(&mut self.symbols, symbol, value);
     }
 
     /// Makes a reference of the node that means the symbol, if there is one.
@@ -346,6 +451,13 @@ impl Scoping {
         ensures unbound { self.new ≡ record self.old { scopes = unbound_at scope.0 name.now self.old.scopes } }
     {
         unbind_in(&mut self.scopes, scope, name);
+    }
+
+    /// Binds in no scope any longer what is a type alone, or ambient.
+    pub fn delete_typescript_bindings(&mut self)
+        ensures { self.new ≡ record self.old { scopes = values_alone self.old.symbols self.old.scopes } }
+    {
+        keep_values_in(&mut self.scopes, self.symbols.as_slice());
     }
 
     /// What is known of the symbol, to be changed.

@@ -9,6 +9,8 @@ use Rattle.oxt_io.specs.Counts.{Rose}
 use Rattle.oxt_io.specs.Passed.{GaveAll}
 use Rattle.oxt_transform.specs.Faults.{refusal_in, IsReasonFor}
 use Rattle.oxt_transform.specs.Outcomes.{IfRefused, IsDoneOrMemory, IsRefusedMemoryOrWriteFault, NothingStands, OnWriteFault, Reported}
+use Rattle.oxt_json_write.specs.Spelled.{text_of}
+use Rattle.oxt_transform.specs.Lowering.{Lowers}
 use Rattle.oxt_transform.specs.Settings.{is_script, wrong_setting}
 use Rattle.oxt_transform.specs.declared.program.Outcome.{Outcome}
 use Rattle.oxt_transform.specs.declared.program.Outcome.TheVariants.{Done, Refused, Usage, ReadFault, WriteFault, Memory, TooLong}
@@ -80,3 +82,21 @@ completes Done came words left left' taken taken' read read' wrote wrote' told t
 completes Usage came words left left' taken taken' read read' wrote wrote' told told' bytes only reported rose reason all stands = absurd only
 completes ReadFault came words left left' taken taken' read read' wrote wrote' told told' bytes only reported rose reason all stands = absurd only
 completes TooLong came words left left' taken taken' read read' wrote wrote' told told' bytes only reported rose reason all stands = absurd only
+
+-- ---- what a tree that passed its test says
+
+module _ (bytes : List ℕ) (source output : Doc) (next : ℕ) (before : List Entry) (taken : List (List ℕ)) (was_script : Bool) where
+  pub accepted : reading bytes ≡ tree source next → unbuilt source ≡ None → before ≡ word of_source source → taken ≡ names_of source → was_script ≡ is_script source
+      → output ≡ erased source → Judges before taken was_script output None → Accepts bytes
+  accepted read built said names script is judged =
+      let as_word = subst (λ w. Judges w taken was_script output None) said judged in
+      let as_names = subst (λ ns. Judges (word of_source source) ns was_script output None) names as_word in
+      let as_script = subst (λ b. Judges (word of_source source) (names_of source) b output None) script as_names in
+      record { source = source; next = next; spelled = read; built = built; judged = subst (λ d. Judges (word of_source source) (names_of source) (is_script source) d None) is as_script }
+
+  pub lowers : (text : List ℕ) → reading bytes ≡ tree source next → before ≡ word of_source source → taken ≡ names_of source → was_script ≡ is_script source
+      → output ≡ erased source → Judges before taken was_script output None → text ≡ text_of output → Lowers bytes text
+  lowers text read said names script is judged written =
+      let as_names = subst (λ ns. Judges before ns was_script output None) names judged in
+      let as_script = subst (λ b. Judges before (names_of source) b output None) script as_names in
+      record { source = source; next = next; output = output; spelled = read; erases = is; valid = judged.0; plain = judged.1; settings = as_script.2; same_word = sym as_script.3 ∙ said; written = written }

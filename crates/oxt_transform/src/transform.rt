@@ -3,15 +3,22 @@ ghost use Rattle.std.specs.Prelude.{◌≡◌, Option, None, Some, IfOk, IfErr, 
 ghost use Rattle.oxt_transform.specs.Faults.{refusal_in, IsReasonFor, text_in};
 ghost use Rattle.oxt_transform.specs.Lowering.{Lowers};
 ghost use Rattle.oxt_transform.specs.Refusals.{Accepts};
+ghost use Rattle.oxt_forms.specs.Facts.{of_source};
+ghost use Rattle.oxt_item.specs.Entry.{entries};
+ghost use Rattle.oxt_tree.specs.View.{node_doc};
+ghost use Rattle.oxt_word.specs.Word.{word};
 
 use crate::certificate::{find_mismatch, is_script};
 use crate::fault::{Fault, fault_of_reading};
 use oxt_erase::erase::erase_program;
 use oxt_erase::unbuilt::first_unbuilt;
 use oxt_forms::facts::Facts;
+use oxt_item::item::Item;
 use oxt_json::read_tree;
 use oxt_json_write::write_tree;
 pub use oxt_options::TransformOptions;
+use oxt_tree::ids::OutOfMemory;
+use oxt_tree::tree::Node;
 use oxt_uid::uid::UidNames;
 use oxt_word::word::word_of;
 use std::alloc::Global;
@@ -62,7 +69,7 @@ pub fn transform_text(
         return Err(Fault::Unbuilt { kind });
     }
     let names = UidNames::of_tree(alloc, &program.root)?;
-    let before = word_of(&Facts::of_source(alloc), &program.root)?;
+    let before = source_word(alloc, &program.root)?;
     let was_script = is_script(&program.root);
     erase_program(alloc, &mut program);
     let mismatch = find_mismatch(alloc, before.as_slice(), &names, was_script, &program.root)?;
@@ -71,4 +78,11 @@ pub fn transform_text(
     }
     let bytes = write_tree(alloc, &program)?;
     Ok(TransformerReturn { bytes })
+}
+
+/// The effect word of the source.
+fn source_word(alloc: Global, root: &Node) -> Result<Vec<Item>, OutOfMemory>
+    ensures { IfOk result (λ items. entries items.items ≡ word of_source (node_doc root.now)) }
+{
+    word_of(&Facts::of_source(alloc), root)
 }

@@ -1,6 +1,6 @@
 -- A value that is dropped, and what stands before it.
-use Rattle.std.proofs.Common.{◌≡◌, ◌∙◌, refl, sym, ap, ℕ, zero, suc, ◌+◌, ◌<◌, ◌≤◌, List, [], ◌∷◌, ◌++◌, map, length, drop, take, get_or, append_assoc, arith, Bool, true, false, if◌then◌else◌}
-use Rattle.oxt_item.specs.Entry.{Entry, entries, entry_of, lone}
+use Rattle.std.proofs.Common.{◌≡◌, ◌∙◌, refl, sym, ap, ℕ, zero, suc, ◌+◌, ◌<◌, ◌≤◌, List, [], ◌∷◌, ◌++◌, length, drop, take, get_or, append_assoc, arith, true, false, if◌then◌else◌}
+use Rattle.oxt_item.specs.Entry.{Entry, entries, lone}
 use Rattle.oxt_item.specs.declared.item.Item.{Item}
 use Rattle.oxt_item.specs.declared.item.Mark.TheVariants as mark
 use Rattle.oxt_word.specs.Whole.{dropped, ends_kept, is_kept_mark}

@@ -1,5 +1,5 @@
 -- The loops of the word: what is put, and what is left.
-use Rattle.std.proofs.Common.{◌≡◌, ◌∙◌, refl, sym, ap, ℕ, zero, suc, ◌+◌, ◌<◌, ◌≤◌, List, [], ◌∷◌, ◌++◌, map, length, drop, get_or, add-one, append_assoc, append-nil, arith, Bool, true, false, if◌then◌else◌, nat_lt, length-drop, ◌-◌, Option, None, Some}
+use Rattle.std.proofs.Common.{◌≡◌, ◌∙◌, refl, sym, ap, ℕ, zero, suc, ◌+◌, ◌<◌, ◌≤◌, List, [], ◌∷◌, ◌++◌, map, length, drop, get_or, append_assoc, append-nil, arith, Bool, true, false, if◌then◌else◌, nat_lt, length-drop, ◌-◌, Option, None, Some}
 use Rattle.std.proofs.lemmas.Bool.Decides.{nat_tests}
 use Rattle.std.specs.List.{position_from, slice_get}
 use Rattle.std.specs.Str.{bytes_eq}

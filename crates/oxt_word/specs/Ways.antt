@@ -2,14 +2,14 @@
 use Rattle.std.specs.Prelude.{List, [], ◌∷◌, ◌++◌, Bool, true, false, if◌then◌else◌, codes}
 use Rattle.oxt_table.specs.declared.kind.Kind.{Kind}
 use Rattle.oxt_tree.specs.Fields.{first}
-use Rattle.oxt_tree.specs.Doc.{Docs, flag, nil, text}
+use Rattle.oxt_tree.specs.Doc.{Docs, flag, nil}
 use Rattle.oxt_tree.specs.Fields.{named, is_set, is_text}
 use Rattle.oxt_item.specs.Entry.{Entry, detail, detailed, lone, spelled}
 use Rattle.oxt_forms.specs.Facts.{Known, is_made}
 use Rattle.oxt_forms.specs.Forms.{is_long}
 use Rattle.oxt_forms.specs.Made.{is_passing, is_quiet, passes_on}
 use Rattle.oxt_word.specs.Node.{start, opened, OneField, AllFields}
-use Rattle.oxt_word.specs.Whole.{bind_word, class_word, declarator_word, function_word, number_word, variables_word, whole_word}
+use Rattle.oxt_word.specs.Whole.{bind_word, class_word, declarator_word, function_word, number_word, private_word, variables_word, whole_word}
 use Rattle.oxt_item.specs.declared.item.Binding.{Binding}
 use Rattle.oxt_item.specs.declared.item.Mark.TheVariants as mark
 use Rattle.oxt_word.specs.declared.rule.Rule.{Rule}
@@ -80,17 +80,19 @@ keyed_word f rule.Sequence k ds c fs =
     else whole_word f rule.Sequence k ds c fs ++ lone mark.Key
 keyed_word f rule.PropertyName k ds c fs = []
 keyed_word f (rule.Literal m) k ds c fs = []
+keyed_word f rule.PrivateName k ds c fs = []
 keyed_word f rule.Number k ds c fs = []
 keyed_word f r k ds c fs = whole_word f r k ds c fs ++ lone mark.Key
 
 -- Such a key is its own text; another key has none.
-abbrev pub key_text : Rule → Kind → Docs → OneField → List Entry
-key_text rule.Transparent k ds c = c (codes "expression") way.KeyText
-key_text rule.Sequence k ds c = if is_long k ds then c (codes "expressions") way.LastText else []
-key_text rule.PropertyName k ds c = spelled mark.Str (detail (first ds))
-key_text (rule.Literal m) k ds c = spelled m (detail (first ds))
-key_text rule.Number k ds c = number_word k ds
-key_text r k ds c = []
+abbrev pub key_text : Known → Rule → Kind → Docs → OneField → List Entry
+key_text f rule.Transparent k ds c = c (codes "expression") way.KeyText
+key_text f rule.Sequence k ds c = if is_long k ds then c (codes "expressions") way.LastText else []
+key_text f rule.PropertyName k ds c = spelled mark.Str (detail (first ds))
+key_text f (rule.Literal m) k ds c = spelled m (detail (first ds))
+key_text f rule.PrivateName k ds c = private_word f ds
+key_text f rule.Number k ds c = number_word k ds
+key_text f r k ds c = []
 
 -- The keys of a class are each element's decorators and key.
 abbrev pub keys_word : Rule → OneField → AllFields → List Entry

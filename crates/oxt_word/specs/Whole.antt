@@ -1,5 +1,5 @@
 -- What a node does, by the rule of its kind.
-use Rattle.std.specs.Prelude.{ℕ, List, [], ◌∷◌, ◌++◌, Bool, true, false, ◌&&◌, if◌then◌else◌, codes}
+use Rattle.std.specs.Prelude.{ℕ, List, [], ◌∷◌, ◌++◌, Bool, true, false, ◌&&◌, if◌then◌else◌, Option, None, Some, codes}
 use Rattle.oxt_table.specs.declared.kind.Kind.{Kind}
 use Rattle.oxt_table.specs.declared.kind.Kind.TheVariants as kind
 use Rattle.oxt_tree.specs.Fields.{first}
@@ -9,6 +9,7 @@ use Rattle.oxt_item.specs.Entry.{Entry, binding_text, detail, detailed, lone, sp
 use Rattle.oxt_forms.specs.Facts.{Known, is_made}
 use Rattle.oxt_forms.specs.Forms.{within, is_put, is_long, is_found, is_found_made, is_called, binding_of}
 use Rattle.oxt_forms.specs.Made.{base_in, base_key, base_name, is_found_made_on, is_keep, is_silent}
+use Rattle.oxt_privates.specs.Inside.{stored_at}
 use Rattle.oxt_word.specs.Node.{start, opened, OneField, AllFields}
 use Rattle.oxt_item.specs.declared.item.Binding.{Binding}
 use Rattle.oxt_item.specs.declared.item.Mark.{Mark}
@@ -24,6 +25,15 @@ abbrev pub name_word : Known → Docs → List Entry
 name_word f ds =
     if is_made f (first ds) then spelled mark.Made (detail (first ds))
     else spelled mark.Name (detail (first ds))
+
+-- the made name, or else the private name
+abbrev pub private_or : Docs → Option (List ℕ) → List Entry
+private_or ds None = spelled mark.Private (detail (first ds))
+private_or ds (Some m) = spelled mark.PrivateMade (text m)
+
+-- a private name, which may stand for a made name
+abbrev pub private_word : Known → Docs → List Entry
+private_word f ds = private_or ds (stored_at f (first ds))
 
 -- a declared name, which may be made
 abbrev pub bind_word : Known → Binding → Bool → Docs → List Entry
@@ -193,6 +203,7 @@ whole_word f rule.Erased k ds c fs = []
 whole_word f rule.Name k ds c fs = name_word f ds
 whole_word f (rule.Spelled m) k ds c fs = spelled m (detail (first ds))
 whole_word f (rule.Literal m) k ds c fs = spelled m (detail (first ds))
+whole_word f rule.PrivateName k ds c fs = private_word f ds
 whole_word f rule.This k ds c fs = lone mark.This
 whole_word f rule.Number k ds c fs = number_word k ds
 whole_word f rule.StaticMember k ds c fs = get_word (codes "property") way.KeyText k ds c

@@ -2,6 +2,7 @@
 use Rattle.std.specs.Prelude.{ℕ, List, [], ◌∷◌, ◌++◌, if◌then◌else◌}
 use Rattle.std.specs.Str.{bytes_eq}
 use Rattle.oxt_forms.specs.Facts.{Known}
+use Rattle.oxt_privates.specs.Inside.{inside}
 use Rattle.oxt_table.specs.Field.{Field}
 use Rattle.oxt_table.specs.Rows.{row_of}
 use Rattle.oxt_table.specs.declared.kind.Kind.{Kind}
@@ -29,7 +30,7 @@ way_word f (way.Entered p) r k ds c fs = entered_word f p r k ds c fs
 way_word f way.Opened r k ds c fs = opened_word f r k ds c fs
 way_word f way.PassOn r k ds c fs = passed_word f r k ds c fs
 way_word f way.Keyed r k ds c fs = keyed_word f r k ds c fs
-way_word f way.KeyText r k ds c fs = key_text r k ds c
+way_word f way.KeyText r k ds c fs = key_text f r k ds c
 way_word f way.Keys r k ds c fs = keys_word r c fs
 way_word f way.Statics r k ds c fs = statics_word f r k ds c fs
 way_word f way.Fields r k ds c fs = fields_word f r k ds c fs
@@ -67,7 +68,8 @@ abbrev mutual
   said f (text t) w = []
   said f (list ds) w = list_word w (each_said f ds) (turns_said f ds) (last_said f ds)
   said f (node k i b e ds) w =
-      node_word f w (rule_of k) k ds (field_said f ds (row_of k)) (fields_said f ds (row_of k))
+      node_word (inside f k ds) w (rule_of k) k ds
+      (field_said (inside f k ds) ds (row_of k)) (fields_said (inside f k ds) ds (row_of k))
 
   pub each_said : Known → Docs → Way → List Entry
   each_said f no_docs w = []

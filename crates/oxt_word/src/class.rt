@@ -9,7 +9,7 @@ ghost use Rattle.oxt_word.specs.Whole.{class_expression_word, class_parts, class
 ghost use Rattle.oxt_word.specs.Word.{all_fields, each_field};
 
 use crate::put::{
-    field_atom, put_field_start, put_first, put_lone, put_number, put_open, put_start,
+    field_atom, put_field_start, put_first, put_lone, put_number, put_open, put_private, put_start,
 };
 use crate::rule::Rule;
 use crate::way::Way;
@@ -151,6 +151,7 @@ pub(crate) fn put_keyed(
         }
         Rule::PropertyName => Ok(()),
         Rule::Literal(_) => Ok(()),
+        Rule::PrivateName => Ok(()),
         Rule::Number => Ok(()),
         _ => {
             put_whole(facts, rule, node, out)?;
@@ -168,7 +169,7 @@ pub(crate) fn put_key_text(
     out: &mut Vec<Item>,
 ) -> Result<(), OutOfMemory>
     ensures { OnOk result (entries out.new.items
-        ≡ entries out.old.items ++ key_text rule node.now.kind (docs_in node.now.parts.items)
+        ≡ entries out.old.items ++ key_text facts.now rule node.now.kind (docs_in node.now.parts.items)
         (each_field facts.now node.now)) }
 {
     match rule {
@@ -178,6 +179,7 @@ pub(crate) fn put_key_text(
         }
         Rule::PropertyName => put_first(facts.memory(), Mark::Str, node, out),
         Rule::Literal(mark) => put_first(facts.memory(), mark, node, out),
+        Rule::PrivateName => put_private(facts, node, out),
         Rule::Number => put_number(facts.memory(), node, out),
         _ => Ok(()),
     }

@@ -1,5 +1,5 @@
 //! Items at the end of a word.
-ghost use Rattle.std.specs.Prelude.{◌≡◌, ◌∷◌, [], ◌++◌, IfOk, OnOk, map, not, codes, drop, take, if◌then◌else◌};
+ghost use Rattle.std.specs.Prelude.{◌≡◌, ◌∷◌, [], ◌++◌, IfOk, OnOk, map, not, codes, drop, option_map, take, if◌then◌else◌};
 ghost use Rattle.oxt_table.specs.Field.{row_view};
 ghost use Rattle.oxt_table.specs.Rows.{row_of};
 ghost use Rattle.oxt_tree.specs.Fields.{first};
@@ -9,8 +9,9 @@ ghost use Rattle.oxt_tree.specs.View.{docs_in, doc_or_nil, part_doc};
 ghost use Rattle.oxt_item.specs.Entry.{atom_doc, detail, detailed, entries, entry_of, lone, spelled};
 ghost use Rattle.oxt_word.specs.Node.{details, is_atom, is_detail, is_read, start};
 ghost use Rattle.oxt_word.specs.Ways.{in_word};
-ghost use Rattle.oxt_word.specs.Whole.{base_word, bind_word, dropped, ends_kept, hash_word, is_kept_mark, name_word, number_word};
+ghost use Rattle.oxt_word.specs.Whole.{base_word, bind_word, dropped, ends_kept, hash_word, is_kept_mark, name_word, number_word, private_word};
 ghost use Rattle.oxt_forms.specs.Facts.{is_made};
+ghost use Rattle.oxt_privates.specs.Inside.{stored_at};
 ghost use Rattle.oxt_forms.specs.Forms.{within};
 ghost use Rattle.oxt_forms.specs.Made.{base_in};
 
@@ -18,9 +19,11 @@ use oxt_forms::base::{base_in, base_key, base_name};
 use oxt_forms::facts::Facts;
 use oxt_forms::forms::within;
 use oxt_item::item::{Atom, Binding, Item, Mark};
+use oxt_privates::inside::stored_at;
 use oxt_table::holds::{Holds, Row};
 use oxt_table::kind::Kind;
 use oxt_tree::ids::OutOfMemory;
+use oxt_tree::name::Name;
 use oxt_tree::tree::{Node, Part};
 use std::alloc::Global;
 use std::vec;
@@ -215,6 +218,31 @@ fn begins_made(facts: &Facts, node: &Node) -> bool
     match node.parts.first() {
         Some(part) => facts.is_made(part),
         None => false,
+    }
+}
+
+/// Puts the private name, which may stand for a made name.
+pub fn put_private(facts: &Facts, node: &Node, out: &mut Vec<Item>) -> Result<(), OutOfMemory>
+    ensures { OnOk result (entries out.new.items
+        ≡ entries out.old.items ++ private_word facts.now (docs_in node.now.parts.items)) }
+{
+    match stored_first(facts, node) {
+        Some(made) => {
+            let made = Name::new(facts.memory(), made)?;
+            put_spelled(facts.memory(), Mark::PrivateMade, Atom::Text(made), out)
+        }
+        None => put_first(facts.memory(), Mark::Private, node, out),
+    }
+}
+
+/// The made name for which the node's own text stands, as a private name.
+fn stored_first<'a>(facts: &Facts, node: &'a Node) -> Option<&'a str>
+    ensures { option_map (λ made. made.now) result
+        ≡ stored_at facts.now (first (docs_in node.now.parts.items)) }
+{
+    match node.parts.first() {
+        Some(part) => stored_at(facts, part),
+        None => None,
     }
 }
 

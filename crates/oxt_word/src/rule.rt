@@ -25,6 +25,8 @@ pub enum Rule {
     Literal(Mark),
     /// The name of a property.
     PropertyName,
+    /// A private name.
+    PrivateName,
     /// `this`.
     This,
     /// A number.

@@ -60,7 +60,7 @@ pub fn rule_of(kind: Kind) -> Rule
         Kind::BindingIdentifier => Rule::Identifier,
         Kind::IdentifierReference => Rule::Name,
         Kind::IdentifierName => Rule::PropertyName,
-        Kind::PrivateIdentifier => Rule::Literal(Mark::Private),
+        Kind::PrivateIdentifier => Rule::PrivateName,
         Kind::ObjectPattern => Rule::Pattern,
         Kind::ArrayPattern => Rule::Pattern,
         Kind::BindingProperty => Rule::Pattern,

@@ -4,9 +4,10 @@ ghost use Rattle.oxt_table.specs.Field.{row_view};
 ghost use Rattle.oxt_tree.specs.View.{docs_in, node_doc, part_doc};
 ghost use Rattle.oxt_item.specs.Entry.{entries, lone};
 ghost use Rattle.oxt_word.specs.Node.{is_read, opened};
+ghost use Rattle.oxt_word.specs.RuleOf.{rule_of};
 ghost use Rattle.oxt_word.specs.Ways.{bound_word, entered_word, exported_word, target_word};
 ghost use Rattle.oxt_word.specs.Whole.{arrow_word, assignment_word, body_word, call_word, declarator_word, dropped, export_list_word, function_word, get_word, if_word, import_word, logical_word, object_word, sequence_word, variables_word, whole_word};
-ghost use Rattle.oxt_word.specs.Word.{all_fields, each_field, each_said, fields_said, last_said, list_word, said, turns_said, way_word, word};
+ghost use Rattle.oxt_word.specs.Word.{all_fields, each_field, each_said, fields_said, last_said, list_word, node_word, said, turns_said, way_word, word};
 
 use crate::class::{
     put_class, put_class_expression, put_constructor, put_instance_fields, put_key_text, put_keyed,
@@ -15,7 +16,7 @@ use crate::class::{
 use crate::gone::{is_gone, put_gone};
 use crate::put::{
     is_read, put_base, put_bind, put_dropped, put_first, put_hash, put_in, put_lone, put_name,
-    put_number, put_open, put_spelled, put_start, target_atom,
+    put_number, put_open, put_private, put_spelled, put_start, target_atom,
 };
 use crate::rule::Rule;
 use crate::rule_of::rule_of;
@@ -28,6 +29,7 @@ use oxt_forms::forms::{
 use oxt_forms::made::{is_keep, is_silent};
 use oxt_item::item::{Atom, Binding, Item, Mark};
 use oxt_item::tags::number_tags;
+use oxt_privates::inside::inside;
 use oxt_table::holds::Row;
 use oxt_table::kind::Kind;
 use oxt_tree::fields::place_of;
@@ -54,9 +56,22 @@ fn put_node(facts: &Facts, node: &Node, way: Way, out: &mut Vec<Item>) -> Result
     ensures { OnOk result (entries out.new.items
         ≡ entries out.old.items ++ said facts.now (node_doc node.now) way) }
 {
-    let rule = rule_of(node.kind);
     let _id = node.id;
     let _span = node.span;
+    match inside(facts, node)? {
+        Some(inner) => put_known(&inner, node, way, out),
+        None => put_known(facts, node, way, out),
+    }
+}
+
+/// Puts what the node does, read that way, where that is known inside it.
+#[cycle(word)]
+fn put_known(facts: &Facts, node: &Node, way: Way, out: &mut Vec<Item>) -> Result<(), OutOfMemory>
+    ensures { OnOk result (entries out.new.items
+        ≡ entries out.old.items ++ node_word facts.now way (rule_of node.now.kind) node.now.kind
+        (docs_in node.now.parts.items) (each_field facts.now node.now) (all_fields facts.now node.now)) }
+{
+    let rule = rule_of(node.kind);
     if is_gone(rule, node) {
         put_gone(facts.memory(), way, out)
     } else {
@@ -292,6 +307,7 @@ pub(crate) fn put_whole(
         Rule::Name => put_name(facts, node, out),
         Rule::Spelled(mark) => put_first(facts.memory(), mark, node, out),
         Rule::Literal(mark) => put_first(facts.memory(), mark, node, out),
+        Rule::PrivateName => put_private(facts, node, out),
         Rule::This => put_lone(facts.memory(), Mark::This, out),
         Rule::Number => put_number(facts.memory(), node, out),
         Rule::StaticMember => put_get(facts, node, "property", Way::KeyText, out),

@@ -1,0 +1,4 @@
+pub mod Context
+pub mod Made
+pub mod Meant
+pub mod Text

@@ -1,0 +1,13 @@
+//! What passes know and change while they walk a tree: the nodes around, the table of names, what
+//! waits to be inserted, and the makers of names and of the nodes that are names.
+#![tactic(auto)]
+
+pub mod ancestor;
+pub mod bound;
+pub mod context;
+mod makers;
+pub mod maybe;
+#[cfg(test)]
+mod tests;
+pub mod text;
+pub mod uid;
