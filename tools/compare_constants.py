@@ -10,30 +10,20 @@ ORACLE is the folder of the reading, a Python package `oxtref` that is no part o
 program `oxt_members`. What the reading takes for no tree is passed over; what the program alone takes for none is
 counted. Prints a line for each tree that differs, then the counts. The status is 1 if there is a difference, and else 0.
 """
-import argparse
 import json
 import random
-import subprocess
-import sys
 
-from trees import random_trees, trees_in
-
-MAX_SHOWN = 20
+import trees
+from trees import Differences, run, words_and_cases
 
 
-class Reading:
-    """The independent reading."""
-
-    def __init__(self, folder):
-        sys.path[:0] = [folder, folder + "/tests"]
-        from oxtref import constants, scopes, tree
-        self.tree, self.scopes, self.constants = tree, scopes, constants
+class Reading(trees.Reading):
+    """The independent reading, of members and of the blocks of enums."""
 
     def lines(self, text):
         """The lines of the members and of the blocks, as `oxt_members` writes them; None where it is no tree."""
-        try:
-            root = self.tree.read_tree(text)
-        except (self.tree.Json, self.tree.Shape):
+        root = self.root_of(text)
+        if root is None:
             return None
         scopes = self.scopes.Scopes(root)
         constants = self.constants.Constants(scopes)
@@ -134,51 +124,28 @@ def enum_trees(seed, count):
         yield f"enums {number}", json.dumps(tree, separators=(",", ":")).encode()
 
 
-def found(program, word, text):
-    run = subprocess.run([program, word], input=text, capture_output=True, check=False)
-    return run.returncode, run.stdout.decode().splitlines(), run.stderr.decode()
-
-
-def compare(reading, program, cases):
-    trees = members = constants = blocks = refused = differences = 0
-    for name, text in cases:
-        wanted = reading.lines(text)
-        if wanted is None:
-            continue
-        first, second = found(program, "constants", text), found(program, "blocks", text)
-        if "this is no tree" in first[2]:
-            refused += 1
-            continue
-        trees, members, blocks = trees + 1, members + len(wanted[0]), blocks + len(wanted[1])
-        constants += sum(line.split()[1] != "-" for line in wanted[0])
-        lines = first[1] + sorted(second[1])
-        if (first[0], second[0]) == (0, 0) and lines == wanted[0] + wanted[1]:
-            continue
-        differences += 1
-        if differences <= MAX_SHOWN:
-            both = wanted[0] + wanted[1]
-            pair = next(((a, b) for a, b in zip(both, lines) if a != b), (len(both), len(lines)))
-            print(f"{name}: status {first[0]} {second[0]}, wanted {pair[0]}, found {pair[1]}")
-    print(f"{trees} trees, {members} members, {constants} constants, {blocks} blocks, {refused} refused, {differences} trees that differ")
-    return differences
+def compare(reading, program, name, text, differences):
+    wanted = reading.lines(text)
+    if wanted is None:
+        return
+    first, second = run(program, "constants", text), run(program, "blocks", text)
+    if "this is no tree" in first[2]:
+        differences.add(refused=1)
+        return
+    members, blocks = wanted
+    constants = sum(line.split()[1] != "-" for line in members)
+    differences.add(trees=1, members=len(members), constants=constants, blocks=len(blocks))
+    lines = first[1] + sorted(second[1])
+    if (first[0], second[0], lines) != (0, 0, members + blocks):
+        differences.show_lines(name, f"{first[0]} {second[0]}", members + blocks, lines)
 
 
 def main():
-    parser = argparse.ArgumentParser(description=__doc__.split("\n", 1)[0])
-    parser.add_argument("oracle")
-    parser.add_argument("members")
-    parser.add_argument("--random", nargs=2, type=int, metavar=("SEED", "COUNT"))
-    parser.add_argument("--enums", nargs=2, type=int, metavar=("SEED", "COUNT"))
-    parser.add_argument("files", nargs="*")
-    words = parser.parse_args()
-    reading = Reading(words.oracle)
-    if words.random:
-        cases = random_trees(*words.random)
-    elif words.enums:
-        cases = enum_trees(*words.enums)
-    else:
-        cases = trees_in(words.files)
-    sys.exit(1 if compare(reading, words.members, cases) else 0)
+    reading, program, cases = words_and_cases(__doc__, Reading, {"enums": enum_trees})
+    differences = Differences()
+    for name, text in cases:
+        compare(reading, program, name, text, differences)
+    differences.end()
 
 
 if __name__ == "__main__":

@@ -8,28 +8,17 @@ ORACLE is the folder of the reading, a Python package `oxtref` that is no part o
 program `oxt_owners`. What the reading takes for no tree is passed over. Prints a line for each tree that differs, then
 the counts. The status is 1 if there is a difference, and else 0.
 """
-import argparse
-import subprocess
-import sys
-
-from trees import random_trees, trees_in
-
-MAX_SHOWN = 20
+import trees
+from trees import Differences, run, words_and_cases
 
 
-class Reading:
-    """The independent reading."""
-
-    def __init__(self, folder):
-        sys.path[:0] = [folder, folder + "/tests"]
-        from oxtref import scopes, tree
-        self.tree, self.scopes = tree, scopes
+class Reading(trees.Reading):
+    """The independent reading, of owners."""
 
     def lines(self, text):
         """The lines of the names of a tree, as `oxt_owners tree` writes them; None where it is no tree."""
-        try:
-            root = self.tree.read_tree(text)
-        except (self.tree.Json, self.tree.Shape):
+        root = self.root_of(text)
+        if root is None:
             return None
         # The name of an export that is no use of it has no line.
         return [self.line(use) for use in self.scopes.Scopes(root).refs if use.mode != "modname"]
@@ -41,34 +30,18 @@ class Reading:
         return f"{use.node.num} {use.node.name} {owner} {way}".rstrip()
 
 
-def compare(reading, program, cases):
-    trees = names = differences = 0
+def main():
+    reading, program, cases = words_and_cases(__doc__, Reading)
+    differences = Differences()
     for name, text in cases:
         wanted = reading.lines(text)
         if wanted is None:
             continue
-        trees, names = trees + 1, names + len(wanted)
-        run = subprocess.run([program, "tree"], input=text, capture_output=True, check=False)
-        found = run.stdout.decode().splitlines()
-        if run.returncode == 0 and found == wanted:
-            continue
-        differences += 1
-        if differences <= MAX_SHOWN:
-            pair = next(((a, b) for a, b in zip(wanted, found) if a != b), (len(wanted), len(found)))
-            print(f"{name}: status {run.returncode}, wanted {pair[0]}, found {pair[1]}")
-    print(f"{trees} trees, {names} names, {differences} trees that differ")
-    return differences
-
-
-def main():
-    parser = argparse.ArgumentParser(description=__doc__.split("\n", 1)[0])
-    parser.add_argument("oracle")
-    parser.add_argument("owners")
-    parser.add_argument("--random", nargs=2, type=int, metavar=("SEED", "COUNT"))
-    parser.add_argument("files", nargs="*")
-    words = parser.parse_args()
-    cases = random_trees(*words.random) if words.random else trees_in(words.files)
-    sys.exit(1 if compare(Reading(words.oracle), words.owners, cases) else 0)
+        differences.add(trees=1, names=len(wanted))
+        status, found, _ = run(program, "tree", text)
+        if (status, found) != (0, wanted):
+            differences.show_lines(name, status, wanted, found)
+    differences.end()
 
 
 if __name__ == "__main__":

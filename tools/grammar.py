@@ -485,10 +485,10 @@ abbrev pub is_unbuilt_kind : Kind → Bool
 
 
 def rule_term(rule, spec):
-    """A rule such as `Spelled Str`, whose argument is a mark, a binding or a flag."""
+    """A rule such as `Spelled Str`, whose argument is a kind of items, a binding or a flag."""
     name, _, argument = rule.partition(" ")
-    of = {"Spelled": "Mark", "Literal": "Mark", "Binds": "Binding"}.get(name)
-    argument = argument if of is None else f"{of.lower()}.{argument}" if spec else f"{of}::{argument}"
+    item, binding = ("item.", "binding.") if spec else ("ItemKind::", "Binding::")
+    argument = {"Spelled": item, "Literal": item, "Binds": binding}.get(name, "") + argument
     if spec:
         return f"(rule.{name} {argument})" if argument else f"rule.{name}"
     return f"Rule::{name}({argument})" if argument else f"Rule::{name}"
@@ -501,7 +501,7 @@ ghost use Rattle.std.specs.Prelude.{{◌≡◌}};
 ghost use Rattle.oxt_word.specs.RuleOf.{{rule_of}};
 
 use crate::rule::Rule;
-use oxt_item::item::{{Binding, Mark}};
+use oxt_item::item::{{Binding, ItemKind}};
 use oxt_table::kind::Kind;
 
 /// The rule by which nodes of the kind are read.
@@ -518,7 +518,7 @@ use Rattle.std.specs.Prelude.{{true, false}}
 use Rattle.oxt_table.specs.declared.kind.Kind.{{Kind}}
 use Rattle.oxt_table.specs.declared.kind.Kind.TheVariants.{{{", ".join(g.kinds)}}}
 use Rattle.oxt_item.specs.declared.item.Binding.TheVariants as binding
-use Rattle.oxt_item.specs.declared.item.Mark.TheVariants as mark
+use Rattle.oxt_item.specs.declared.item.ItemKind.TheVariants as item
 use Rattle.oxt_word.specs.declared.rule.Rule.{{Rule}}
 use Rattle.oxt_word.specs.declared.rule.Rule.TheVariants as rule
 
@@ -713,7 +713,7 @@ def write(path, text, check):
     if old == text:
         return True
     if check:
-        print(f"{path} is not what grammar/grammar.txt gives: run tools/grammar.py")
+        print(f"{path} is not up to date with grammar/grammar.txt: run {os.path.relpath(sys.argv[0], ROOT)}")
         return False
     os.makedirs(os.path.dirname(full), exist_ok=True)
     with open(full, "w", encoding="utf-8") as out:

@@ -8,7 +8,7 @@ use Rattle.oxt_tree.specs.Doc.{Doc, nil, flag, number, text, list, node, Docs, n
 use Rattle.oxt_tree.specs.Fields.{first, named, field_of, elements, docs_list, is_nil, is_set, is_text, is_kind, is_empty_list, text_in}
 use Rattle.oxt_tree.specs.Inner.{seen}
 use Rattle.oxt_tree.specs.Syntax.{is_mere_declaration}
-use Rattle.oxt_forms.specs.Facts.{Known, is_made}
+use Rattle.oxt_facts.specs.Facts.{Known, is_made}
 use Rattle.oxt_forms.specs.Forms.{within, same_text, is_empty_object, is_name_again, is_choice, is_one}
 
 -- the use of a made name

@@ -1,12 +1,10 @@
-//! The forms by which effect words read a tree, and what is known of its names.
+//! The forms by which effect words read a tree.
 #![tactic(auto)]
 
 pub mod base;
-pub mod facts;
 pub mod forms;
 pub mod made;
 mod mentions;
 pub mod passing;
-pub mod privates;
 #[cfg(test)]
 mod tests;

@@ -1,14 +1,14 @@
 //! Forms that are read by a rule of their own where they have made names.
 ghost use Rattle.std.specs.Prelude.{◌≡◌, not, codes};
 ghost use Rattle.std.specs.List.{list_any};
-ghost use Rattle.oxt_forms.specs.Facts.{is_made};
+ghost use Rattle.oxt_facts.specs.Facts.{is_made};
 ghost use Rattle.oxt_forms.specs.Forms.{within};
 ghost use Rattle.oxt_forms.specs.Made.{are_silent, is_keep, is_loud, is_made_binding, is_made_use, is_quiet, is_silent, is_silent_declaration, is_silent_declarator};
 ghost use Rattle.oxt_tree.specs.Fields.{named};
 ghost use Rattle.oxt_tree.specs.View.{docs_in, part_doc};
 
-use crate::facts::Facts;
 use crate::forms::{lists_nothing, within};
+use oxt_facts::facts::Facts;
 use oxt_table::kind::Kind;
 use oxt_tree::tree::{Node, Part};
 

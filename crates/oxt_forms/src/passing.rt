@@ -7,10 +7,10 @@ ghost use Rattle.oxt_tree.specs.Fields.{docs_list, elements, field_of, first, is
 ghost use Rattle.oxt_tree.specs.View.{docs_in, doc_or_nil, part_doc};
 
 use crate::base::field_of;
-use crate::facts::Facts;
 use crate::forms::{is_one, lists_nothing};
 use crate::made::{is_made_binding, is_made_use, is_silent_declaration};
 use crate::mentions::mentions;
+use oxt_facts::facts::Facts;
 use oxt_table::kind::Kind;
 use oxt_tree::tree::{Node, Part};
 

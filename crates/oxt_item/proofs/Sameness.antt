@@ -86,15 +86,15 @@ atoms_lengths (x ∷ xs) (y ∷ ys) h = step (same_atom (atom_doc x) (atom_doc y
     step true e = e
     step false e = refl
 
--- Two items are one where their marks, spellings and details are.
-pub item_same : (a b : Item) → a.mark ≡ b.mark → same_atom (atom_doc a.spelling) (atom_doc b.spelling) ≡ true → same_atoms (map atom_doc a.details.items) (map atom_doc b.details.items) ≡ true → entry_of a ≡ entry_of b
+-- Two items are one where their kinds, spellings and details are.
+pub item_same : (a b : Item) → a.kind ≡ b.kind → same_atom (atom_doc a.spelling) (atom_doc b.spelling) ≡ true → same_atoms (map atom_doc a.details.items) (map atom_doc b.details.items) ≡ true → entry_of a ≡ entry_of b
 item_same a b m s d =
     let spelling = atom_same (atom_doc a.spelling) (atom_doc b.spelling) s in
     let details = atoms_same (map atom_doc a.details.items) (map atom_doc b.details.items) d in
     cc
 
-pub mark_of : (a b : Item) → entry_of a ≡ entry_of b → a.mark ≡ b.mark
-mark_of a b e = ap (λ (x : Entry). x.mark) e
+pub kind_of : (a b : Item) → entry_of a ≡ entry_of b → a.kind ≡ b.kind
+kind_of a b e = ap (λ (x : Entry). x.kind) e
 
 pub spelling_of : (a b : Item) → entry_of a ≡ entry_of b → same_atom (atom_doc a.spelling) (atom_doc b.spelling) ≡ true
 spelling_of a b e = ap (λ (x : Entry). same_atom (atom_doc a.spelling) x.spelling) (sym e) ∙ atom_self a.spelling

@@ -9,27 +9,27 @@ use Rattle.oxt_item.specs.declared.item.Atom.TheVariants as atom
 use Rattle.oxt_item.specs.declared.item.Binding.{Binding}
 use Rattle.oxt_item.specs.declared.item.Binding.TheVariants as binding
 use Rattle.oxt_item.specs.declared.item.Item.{Item}
-use Rattle.oxt_item.specs.declared.item.Mark.{Mark}
+use Rattle.oxt_item.specs.declared.item.ItemKind.{ItemKind}
 
 -- what it stands for, what it is spelled, and further texts and flags
 pub record Entry : Type 0 where
-  pub mark : Mark
+  pub kind : ItemKind
   pub spelling : Doc
   pub details : List Doc
 
-abbrev pub entry : Mark → Doc → List Doc → Entry
-entry m s ds = record { mark = m; spelling = s; details = ds }
+abbrev pub entry : ItemKind → Doc → List Doc → Entry
+entry m s ds = record { kind = m; spelling = s; details = ds }
 
 -- an item that is not spelled
-abbrev pub lone : Mark → List Entry
+abbrev pub lone : ItemKind → List Entry
 lone m = entry m nil [] ∷ []
 
 -- an item with that spelling
-abbrev pub spelled : Mark → Doc → List Entry
+abbrev pub spelled : ItemKind → Doc → List Entry
 spelled m s = entry m s [] ∷ []
 
 -- an item with that spelling and these further texts and flags
-abbrev pub detailed : Mark → Doc → List Doc → List Entry
+abbrev pub detailed : ItemKind → Doc → List Doc → List Entry
 detailed m s ds = entry m s ds ∷ []
 
 -- what a name is declared as
@@ -56,7 +56,7 @@ atom_doc (atom.Kind k) = text (name_of k)
 atom_doc (atom.Binding b) = text (binding_text b)
 
 abbrev pub entry_of : Item → Entry
-entry_of i = entry i.mark (atom_doc i.spelling) (map atom_doc i.details.items)
+entry_of i = entry i.kind (atom_doc i.spelling) (map atom_doc i.details.items)
 
 -- the items of a list
 abbrev pub entries : List Item → List Entry

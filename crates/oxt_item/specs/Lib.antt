@@ -1,4 +1,4 @@
 pub mod Compare
 pub mod Entry
-pub mod Marks
+pub mod ItemKinds
 pub mod Tags

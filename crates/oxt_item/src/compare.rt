@@ -1,15 +1,43 @@
 //! Comparing words.
-ghost use Rattle.std.specs.Prelude.{◌≡◌, ◌↔◌, IsTrue, map};
+ghost use Rattle.std.specs.Prelude.{◌≡◌, ◌↔◌, IfSome, IsTrue, map, option_map, slice_get};
 ghost use Rattle.oxt_tree.specs.Fields.{is_nil, is_text};
 ghost use Rattle.oxt_item.specs.Compare.{is_flag, is_number, same_atom, same_atoms, IsFirstDifference};
 ghost use Rattle.oxt_item.specs.Entry.{atom_doc, entries, entry_of};
 
-use crate::item::{Atom, Item, Mark};
+use crate::item::{Atom, Item, ItemKind};
+
+/// The first place at which two words differ, with what stands there: nothing where a word has ended.
+#[derive(Clone, Copy)]
+pub struct Difference<'w> {
+    pub index: usize,
+    pub source: Option<&'w Item>,
+    pub output: Option<&'w Item>,
+}
+
+/// The first place at which the word of an output differs from that of its source, one of them having
+/// ended included; none where they are one.
+pub fn first_difference<'w>(source: &'w [Item], output: &'w [Item]) -> Option<Difference<'w>>
+    ensures first { IsFirstDifference (entries source.now) (entries output.now)
+        (option_map (λ d. d.index) result) }
+    ensures source { IfSome result (λ d. option_map (λ item. entry_of item.now) d.source
+        ≡ slice_get (entries source.now) d.index) }
+    ensures output { IfSome result (λ d. option_map (λ item. entry_of item.now) d.output
+        ≡ slice_get (entries output.now) d.index) }
+{
+    match first_index(source, output) {
+        Some(index) => Some(Difference {
+            index,
+            source: source.get(index),
+            output: output.get(index),
+        }),
+        None => None,
+    }
+}
 
 /// The first place at which the words differ, one of them having ended included; none where they
 /// are one.
 #[tactic(auto, using(crate::proofs::Differences::one_more, crate::proofs::Differences::differs, crate::proofs::Differences::none_left, crate::proofs::Differences::one_left))]
-pub fn first_difference(a: &[Item], b: &[Item]) -> Option<usize>
+fn first_index(a: &[Item], b: &[Item]) -> Option<usize>
     ensures { IsFirstDifference (entries a.now) (entries b.now) result }
 {
     let shared = a.len().min(b.len());
@@ -26,16 +54,16 @@ pub fn first_difference(a: &[Item], b: &[Item]) -> Option<usize>
 }
 
 /// Whether both are one item.
-#[tactic(auto, using(crate::proofs::Sameness::item_same, crate::proofs::Sameness::mark_of, crate::proofs::Sameness::spelling_of, crate::proofs::Sameness::details_of))]
+#[tactic(auto, using(crate::proofs::Sameness::item_same, crate::proofs::Sameness::kind_of, crate::proofs::Sameness::spelling_of, crate::proofs::Sameness::details_of))]
 fn same_item(a: &Item, b: &Item) -> bool
     ensures { IsTrue result ↔ entry_of a.now ≡ entry_of b.now }
 {
-    same_mark(a.mark, b.mark)
+    same_kind(a.kind, b.kind)
         && (same_atom(&a.spelling, &b.spelling) && same_atoms(&a.details, &b.details))
 }
 
-/// Whether both are one mark.
-fn same_mark(a: Mark, b: Mark) -> bool
+/// Whether both are one kind.
+fn same_kind(a: ItemKind, b: ItemKind) -> bool
     ensures { IsTrue result ↔ a ≡ b }
 {
     a == b

@@ -7,7 +7,7 @@ use oxt_tree::name::Name;
 
 /// What an item stands for.
 #[derive(Clone, Copy, Debug, PartialEq, Eq)]
-pub enum Mark {
+pub enum ItemKind {
     /// The line for the system at the start of a program.
     Hash,
     /// A directive.
@@ -72,45 +72,45 @@ pub enum Mark {
     PassOn,
 }
 
-impl Mark {
-    ghost use Rattle.oxt_item.specs.Marks.{mark_name};
+impl ItemKind {
+    ghost use Rattle.oxt_item.specs.ItemKinds.{item_kind_name};
 
     /// The name by which a word is shown.
     pub fn name(self) -> &'static str
-        ensures { result.now ≡ mark_name self }
+        ensures { result.now ≡ item_kind_name self }
     {
         match self {
-            Mark::Hash => "Hash",
-            Mark::Dir => "Dir",
-            Mark::Open => "Open",
-            Mark::Close => "Close",
-            Mark::Nil => "Nil",
-            Mark::Str => "Str",
-            Mark::Num => "Num",
-            Mark::Private => "Private",
-            Mark::PrivateMade => "PrivateMade",
-            Mark::New => "New",
-            Mark::This => "This",
-            Mark::Name => "Name",
-            Mark::Made => "Made",
-            Mark::Keep => "Keep",
-            Mark::Get => "Get",
-            Mark::Put => "Put",
-            Mark::Eval => "Eval",
-            Mark::Set => "Set",
-            Mark::Bind => "Bind",
-            Mark::BindMade => "BindMade",
-            Mark::In => "In",
-            Mark::InMade => "InMade",
-            Mark::Out => "Out",
-            Mark::Found => "Found",
-            Mark::FoundMade => "FoundMade",
-            Mark::FoundMadeOn => "FoundMadeOn",
-            Mark::Field => "Field",
-            Mark::Define => "Define",
-            Mark::Key => "Key",
-            Mark::Body => "Body",
-            Mark::PassOn => "PassOn",
+            ItemKind::Hash => "Hash",
+            ItemKind::Dir => "Dir",
+            ItemKind::Open => "Open",
+            ItemKind::Close => "Close",
+            ItemKind::Nil => "Nil",
+            ItemKind::Str => "Str",
+            ItemKind::Num => "Num",
+            ItemKind::Private => "Private",
+            ItemKind::PrivateMade => "PrivateMade",
+            ItemKind::New => "New",
+            ItemKind::This => "This",
+            ItemKind::Name => "Name",
+            ItemKind::Made => "Made",
+            ItemKind::Keep => "Keep",
+            ItemKind::Get => "Get",
+            ItemKind::Put => "Put",
+            ItemKind::Eval => "Eval",
+            ItemKind::Set => "Set",
+            ItemKind::Bind => "Bind",
+            ItemKind::BindMade => "BindMade",
+            ItemKind::In => "In",
+            ItemKind::InMade => "InMade",
+            ItemKind::Out => "Out",
+            ItemKind::Found => "Found",
+            ItemKind::FoundMade => "FoundMade",
+            ItemKind::FoundMadeOn => "FoundMadeOn",
+            ItemKind::Field => "Field",
+            ItemKind::Define => "Define",
+            ItemKind::Key => "Key",
+            ItemKind::Body => "Body",
+            ItemKind::PassOn => "PassOn",
         }
     }
 }
@@ -170,7 +170,7 @@ pub enum Atom {
 /// An item: what it stands for, what it is spelled, and further texts and flags.
 #[derive(Debug, Drop)]
 pub struct Item {
-    pub mark: Mark,
+    pub kind: ItemKind,
     pub spelling: Atom,
     pub details: Vec<Atom>,
 }

@@ -6,7 +6,7 @@ ghost use Rattle.oxt_tree.specs.Fields.{text_in};
 ghost use Rattle.oxt_item.specs.Entry.{atom_doc, entries, entry_of};
 ghost use Rattle.oxt_item.specs.Tags.{is_tagged, noted, numbered, tag_in, with_number};
 
-use crate::item::{Atom, Item, Mark};
+use crate::item::{Atom, Item, ItemKind};
 use indexmap::IndexSet;
 use oxt_tree::ids::OutOfMemory;
 use std::alloc::Global;
@@ -59,7 +59,7 @@ fn note(alloc: Global, tag: &str, met: &mut IndexSet<String>) -> Result<usize, O
 fn tag_of(item: &Item) -> Option<&str>
     ensures { option_map (λ tag. tag.now) result ≡ tag_in (entry_of item.now) }
 {
-    if is_tagged(item.mark) {
+    if is_tagged(item.kind) {
         text_of(&item.spelling)
     } else {
         None
@@ -79,12 +79,16 @@ fn text_of(atom: &Atom) -> Option<&str>
     }
 }
 
-/// Whether items with the mark stand for a made name.
-fn is_tagged(mark: Mark) -> bool
-    ensures { result ≡ is_tagged mark }
+/// Whether items with the kind stand for a made name.
+fn is_tagged(kind: ItemKind) -> bool
+    ensures { result ≡ is_tagged kind }
 {
-    match mark {
-        Mark::Made | Mark::PrivateMade | Mark::Keep | Mark::BindMade | Mark::InMade => true,
+    match kind {
+        ItemKind::Made
+        | ItemKind::PrivateMade
+        | ItemKind::Keep
+        | ItemKind::BindMade
+        | ItemKind::InMade => true,
         _ => false,
     }
 }

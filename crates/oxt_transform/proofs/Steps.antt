@@ -21,7 +21,7 @@ use Rattle.oxt_valid.proofs.Decisions.{no_tree, not_plain}
 use Rattle.oxt_valid.specs.Plain.{is_plain}
 use Rattle.oxt_valid.specs.Valid.{is_tree}
 use Rattle.oxt_item.specs.Entry.{Entry}
-use Rattle.oxt_forms.specs.Facts.{of_source}
+use Rattle.oxt_facts.specs.Facts.{of_source}
 use Rattle.oxt_word.specs.Word.{word}
 
 same_source : (bytes : List ℕ) (a b : Doc) (m n : ℕ) → reading bytes ≡ tree a m → reading bytes ≡ tree b n → a ≡ b

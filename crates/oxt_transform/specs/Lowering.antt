@@ -7,7 +7,7 @@ use Rattle.oxt_tree.specs.Doc.{Doc}
 use Rattle.oxt_valid.specs.Plain.{is_plain}
 use Rattle.oxt_valid.specs.Valid.{is_tree}
 use Rattle.oxt_transform.specs.Settings.{is_script, wrong_setting}
-use Rattle.oxt_forms.specs.Facts.{of_output, of_source}
+use Rattle.oxt_facts.specs.Facts.{of_output, of_source}
 use Rattle.oxt_transform.specs.Refusals.{names_of}
 use Rattle.oxt_word.specs.Word.{word}
 

@@ -12,7 +12,7 @@ use Rattle.oxt_valid.specs.Remains.{first_typescript}
 use Rattle.oxt_valid.specs.Valid.{is_tree}
 use Rattle.oxt_item.specs.Compare.{IsFirstDifference}
 use Rattle.oxt_item.specs.Entry.{Entry}
-use Rattle.oxt_forms.specs.Facts.{of_output, of_source}
+use Rattle.oxt_facts.specs.Facts.{of_output, of_source}
 use Rattle.oxt_uid.specs.Made.{all_added}
 use Rattle.oxt_uid.specs.Names.{names}
 use Rattle.oxt_word.specs.Word.{word}

@@ -7,8 +7,8 @@ ghost use Rattle.oxt_tree.specs.View.{node_doc};
 ghost use Rattle.oxt_item.specs.Entry.{entries};
 
 pub use oxt_check::fault::Mismatch;
-use oxt_forms::facts::Facts;
-use oxt_item::compare::first_difference;
+use oxt_facts::facts::Facts;
+use oxt_item::compare::{Difference, first_difference};
 use oxt_item::item::Item;
 use oxt_tree::ids::OutOfMemory;
 use oxt_tree::name::Name;
@@ -44,7 +44,7 @@ pub fn find_mismatch(
     let facts = Facts::of_output(alloc, names, output)?;
     let after = word_of(&facts, output)?;
     match first_difference(before, after.as_slice()) {
-        Some(index) => Ok(Some(Mismatch::Item { index })),
+        Some(Difference { index, .. }) => Ok(Some(Mismatch::Item { index })),
         None => Ok(None),
     }
 }

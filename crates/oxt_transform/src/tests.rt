@@ -1,6 +1,6 @@
 use super::*;
 use crate::certificate::find_mismatch;
-use oxt_forms::facts::Facts;
+use oxt_facts::facts::Facts;
 use oxt_json::read_tree;
 use oxt_uid::uid::UidNames;
 use oxt_word::word::word_of;

@@ -3,7 +3,7 @@ ghost use Rattle.std.specs.Prelude.{◌≡◌, Option, None, Some, IfOk, IfErr, 
 ghost use Rattle.oxt_transform.specs.Faults.{refusal_in, IsReasonFor, text_in};
 ghost use Rattle.oxt_transform.specs.Lowering.{Lowers};
 ghost use Rattle.oxt_transform.specs.Refusals.{Accepts};
-ghost use Rattle.oxt_forms.specs.Facts.{of_source};
+ghost use Rattle.oxt_facts.specs.Facts.{of_source};
 ghost use Rattle.oxt_item.specs.Entry.{entries};
 ghost use Rattle.oxt_tree.specs.View.{node_doc};
 ghost use Rattle.oxt_word.specs.Word.{word};
@@ -12,7 +12,7 @@ use crate::certificate::{find_mismatch, is_script};
 use crate::fault::{Fault, fault_of_reading};
 use oxt_erase::erase::erase_program;
 use oxt_erase::unbuilt::first_unbuilt;
-use oxt_forms::facts::Facts;
+use oxt_facts::facts::Facts;
 use oxt_item::item::Item;
 use oxt_json::read_tree;
 use oxt_json_write::write_tree;

@@ -2,8 +2,8 @@
 use Rattle.std.proofs.Common.{◌≡◌, ◌∙◌, refl, sym, ap, ℕ, zero, suc, ◌+◌, ◌<◌, ◌≤◌, List, [], ◌∷◌, ◌++◌, length, drop, take, get_or, append_assoc, arith, true, false, if◌then◌else◌}
 use Rattle.oxt_item.specs.Entry.{Entry, entries, lone}
 use Rattle.oxt_item.specs.declared.item.Item.{Item}
-use Rattle.oxt_item.specs.declared.item.Mark.TheVariants as mark
-use Rattle.oxt_word.specs.Whole.{dropped, ends_kept, is_kept_mark}
+use Rattle.oxt_item.specs.declared.item.ItemKind.TheVariants as item
+use Rattle.oxt_word.specs.Whole.{dropped, ends_kept, is_kept_kind}
 
 pub take_drop : (n : ℕ) (xs : List Entry) → take n xs ++ drop n xs ≡ xs
 take_drop zero xs = refl
@@ -11,12 +11,12 @@ take_drop (suc n) [] = refl
 take_drop (suc n) (x ∷ xs) = ap (λ v. x ∷ v) (take_drop n xs)
 
 pub held : (n : ℕ) (xs : List Entry) → true ≡ ends_kept (drop n xs) → xs ≡ take n xs ++ dropped (drop n xs)
-held n xs e = sym (ap (λ b. take n xs ++ (if b then drop n xs else drop n xs ++ lone mark.Eval)) (sym e) ∙ take_drop n xs)
+held n xs e = sym (ap (λ b. take n xs ++ (if b then drop n xs else drop n xs ++ lone item.Eval)) (sym e) ∙ take_drop n xs)
 
-pub let_go : (n : ℕ) (xs ys : List Entry) → false ≡ ends_kept (drop n xs) → ys ≡ xs ++ lone mark.Eval → ys ≡ take n xs ++ dropped (drop n xs)
+pub let_go : (n : ℕ) (xs ys : List Entry) → false ≡ ends_kept (drop n xs) → ys ≡ xs ++ lone item.Eval → ys ≡ take n xs ++ dropped (drop n xs)
 let_go n xs ys e is =
-    is ∙ ap (λ v. v ++ lone mark.Eval) (sym (take_drop n xs)) ∙ append_assoc (take n xs) (drop n xs) (lone mark.Eval)
-    ∙ ap (λ b. take n xs ++ (if b then drop n xs else drop n xs ++ lone mark.Eval)) e
+    is ∙ ap (λ v. v ++ lone item.Eval) (sym (take_drop n xs)) ∙ append_assoc (take n xs) (drop n xs) (lone item.Eval)
+    ∙ ap (λ b. take n xs ++ (if b then drop n xs else drop n xs ++ lone item.Eval)) e
 
 pub nothing_last : (xs : List Item) (n : ℕ) → length xs ≤ n → false ≡ ends_kept (drop n (entries xs))
 nothing_last [] zero h = refl
@@ -24,14 +24,14 @@ nothing_last [] (suc n) h = refl
 nothing_last (x ∷ xs) zero h = absurd (omega arith)
 nothing_last (x ∷ xs) (suc n) h = nothing_last xs n (omega arith)
 
-last : (xs : List Item) (i : ℕ) (x : Item) → length xs ≡ suc i → x ≡ get_or xs i x → is_kept_mark x.mark ≡ ends_kept (entries xs)
+last : (xs : List Item) (i : ℕ) (x : Item) → length xs ≡ suc i → x ≡ get_or xs i x → is_kept_kind x.kind ≡ ends_kept (entries xs)
 last [] i x long at = absurd (omega arith)
-last (y ∷ []) zero x long at = ap (λ (z : Item). is_kept_mark z.mark) at
+last (y ∷ []) zero x long at = ap (λ (z : Item). is_kept_kind z.kind) at
 last (y ∷ []) (suc i) x long at = absurd (omega arith)
 last (y ∷ z ∷ xs) zero x long at = absurd (omega arith)
 last (y ∷ z ∷ xs) (suc i) x long at = last (z ∷ xs) i x (omega arith) at
 
-pub kept_last : (xs : List Item) (n i : ℕ) (x : Item) → n < length xs → length xs ≡ i + 1 → x ≡ get_or xs i x → is_kept_mark x.mark ≡ ends_kept (drop n (entries xs))
+pub kept_last : (xs : List Item) (n i : ℕ) (x : Item) → n < length xs → length xs ≡ i + 1 → x ≡ get_or xs i x → is_kept_kind x.kind ≡ ends_kept (drop n (entries xs))
 kept_last [] n i x h long at = absurd (omega arith)
 kept_last (y ∷ xs) zero i x h long at = last (y ∷ xs) i x (omega arith) at
 kept_last (y ∷ []) (suc n) i x h long at = absurd (omega arith)

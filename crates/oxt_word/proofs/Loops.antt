@@ -3,7 +3,7 @@ use Rattle.std.proofs.Common.{◌≡◌, ◌∙◌, refl, sym, ap, ℕ, zero, su
 use Rattle.std.proofs.lemmas.Bool.Decides.{nat_tests}
 use Rattle.std.specs.List.{position_from, slice_get}
 use Rattle.std.specs.Str.{bytes_eq}
-use Rattle.oxt_forms.specs.Facts.{Known}
+use Rattle.oxt_facts.specs.Facts.{Known}
 use Rattle.oxt_table.specs.Rows.{row_of}
 use Rattle.oxt_table.specs.declared.kind.Kind.{Kind}
 use Rattle.oxt_table.specs.Field.{Field, row_view}
@@ -19,7 +19,7 @@ use Rattle.oxt_item.specs.Entry.{Entry, lone}
 use Rattle.oxt_word.specs.Node.{is_read}
 use Rattle.oxt_word.specs.Whole.{dropped}
 use Rattle.oxt_word.specs.Word.{said, each_said, turns_said, last_said, fields_said, field_said}
-use Rattle.oxt_item.specs.declared.item.Mark.TheVariants as mark
+use Rattle.oxt_item.specs.declared.item.ItemKind.TheVariants as item
 use Rattle.oxt_word.specs.declared.way.Way.{Way}
 use Rattle.oxt_word.specs.declared.way.Way.TheVariants as way
 
@@ -126,10 +126,10 @@ field_some f name k rs ps qs i p w rows place same within is =
 
 -- a field whose part is not there
 pub field_past : (f : Known) (name : List ℕ) (k : Kind) (rs : List Row) (ps qs : List Part) (i : ℕ) (w : Way) → map row_view rs ≡ row_of k → Some i ≡ position_from (λ r. bytes_eq r.name.now name) 0 rs → qs ≡ ps
-    → length qs ≤ i → lone mark.Nil ≡ field_said f (docs_in ps) (row_of k) name w
+    → length qs ≤ i → lone item.Nil ≡ field_said f (docs_in ps) (row_of k) name w
 field_past f name k rs ps qs i w rows place same past =
     sym (field_at f name k rs ps (Some i) w rows place ∙ ap (λ o. said f (doc_of_part o) w) (ap (λ xs. slice_get xs i) (sym same) ∙ slice_get_past qs i past))
 
 -- a field whose row is not there
-pub field_none : (f : Known) (name : List ℕ) (k : Kind) (rs : List Row) (ps : List Part) (w : Way) → map row_view rs ≡ row_of k → None ≡ position_from (λ r. bytes_eq r.name.now name) 0 rs → lone mark.Nil ≡ field_said f (docs_in ps) (row_of k) name w
+pub field_none : (f : Known) (name : List ℕ) (k : Kind) (rs : List Row) (ps : List Part) (w : Way) → map row_view rs ≡ row_of k → None ≡ position_from (λ r. bytes_eq r.name.now name) 0 rs → lone item.Nil ≡ field_said f (docs_in ps) (row_of k) name w
 field_none f name k rs ps w rows place = sym (field_at f name k rs ps None w rows place)

@@ -7,7 +7,7 @@ use Rattle.oxt_tree.specs.Fields.{named, field_of, is_set, is_text, is_kind}
 use Rattle.oxt_tree.specs.Syntax.{lacks_body}
 use Rattle.oxt_item.specs.Entry.{Entry, lone}
 use Rattle.oxt_item.specs.declared.item.Binding.TheVariants as binding
-use Rattle.oxt_item.specs.declared.item.Mark.TheVariants as mark
+use Rattle.oxt_item.specs.declared.item.ItemKind.TheVariants as item
 use Rattle.oxt_word.specs.Node.{start}
 use Rattle.oxt_word.specs.declared.rule.Rule.{Rule}
 use Rattle.oxt_word.specs.declared.rule.Rule.TheVariants as rule
@@ -38,6 +38,6 @@ is_gone r k ds = false
 -- An erased statement is an empty block where it is the body of a loop or of an `if`, an absent part as its
 -- alternate, and nothing elsewhere.
 abbrev pub gone_word : Way → List Entry
-gone_word way.Branch = start kind.BlockStatement [] ++ lone mark.Close
-gone_word way.Alternate = lone mark.Nil
+gone_word way.Branch = start kind.BlockStatement [] ++ lone item.Close
+gone_word way.Alternate = lone item.Nil
 gone_word w = []

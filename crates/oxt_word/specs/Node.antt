@@ -9,7 +9,7 @@ use Rattle.oxt_table.specs.declared.holds.Holds.TheVariants as holds
 use Rattle.oxt_table.specs.declared.kind.Kind.{Kind}
 use Rattle.oxt_tree.specs.Doc.{Doc, text, Docs, no_docs, doc}
 use Rattle.oxt_item.specs.Entry.{Entry, detail, detailed, lone}
-use Rattle.oxt_item.specs.declared.item.Mark.TheVariants as mark
+use Rattle.oxt_item.specs.declared.item.ItemKind.TheVariants as item
 use Rattle.oxt_word.specs.declared.way.Way.{Way}
 
 -- a field holds a text, a number, a word or a flag
@@ -41,11 +41,11 @@ details (r ∷ rs) (doc d ds) = if is_detail r then detail d ∷ details rs ds e
 
 -- the start of a node with these texts and flags
 abbrev pub start : Kind → List Doc → List Entry
-start k ds = detailed mark.Open (text (name_of k)) ds
+start k ds = detailed item.Open (text (name_of k)) ds
 
 -- a node: its start, what stands in it, and its end
 abbrev pub opened : Kind → Docs → List Entry → List Entry
-opened k ds inside = start k (details (row_of k) ds) ++ (inside ++ lone mark.Close)
+opened k ds inside = start k (details (row_of k) ds) ++ (inside ++ lone item.Close)
 
 -- what the field of that name does, read that way
 abbrev pub OneField : Type 0

@@ -5,13 +5,13 @@ use Rattle.oxt_tree.specs.Fields.{first}
 use Rattle.oxt_tree.specs.Doc.{Docs, flag, nil}
 use Rattle.oxt_tree.specs.Fields.{named, is_set, is_text}
 use Rattle.oxt_item.specs.Entry.{Entry, detail, detailed, lone, spelled}
-use Rattle.oxt_forms.specs.Facts.{Known, is_made}
+use Rattle.oxt_facts.specs.Facts.{Known, is_made}
 use Rattle.oxt_forms.specs.Forms.{is_long}
 use Rattle.oxt_forms.specs.Made.{is_passing, is_quiet, passes_on}
 use Rattle.oxt_word.specs.Node.{start, opened, OneField, AllFields}
 use Rattle.oxt_word.specs.Whole.{bind_word, class_word, declarator_word, function_word, number_word, private_word, variables_word, whole_word}
 use Rattle.oxt_item.specs.declared.item.Binding.{Binding}
-use Rattle.oxt_item.specs.declared.item.Mark.TheVariants as mark
+use Rattle.oxt_item.specs.declared.item.ItemKind.TheVariants as item
 use Rattle.oxt_word.specs.declared.rule.Rule.{Rule}
 use Rattle.oxt_word.specs.declared.rule.Rule.TheVariants as rule
 use Rattle.oxt_word.specs.declared.way.Way.TheVariants as way
@@ -45,13 +45,13 @@ exported_word f r k ds c fs = whole_word f r k ds c fs
 -- the entry into a called function, whose parameter may have a made name
 abbrev pub in_word : Known → Bool → Docs → List Entry
 in_word f p ds =
-    detailed (if is_made f (first ds) then mark.InMade else mark.In) (detail (first ds)) (flag p ∷ [])
+    detailed (if is_made f (first ds) then item.InMade else item.In) (detail (first ds)) (flag p ∷ [])
 
 -- A function that is called where it stands is the entry with its parameter, its body and its end.
 abbrev pub entered_word : Known → Bool → Rule → Kind → Docs → OneField → AllFields → List Entry
 entered_word f p rule.Transparent k ds c fs = c (codes "expression") (way.Entered p)
 entered_word f p rule.FunctionExpression k ds c fs =
-    c (codes "params") (way.Entered p) ++ (c (codes "body") way.Whole ++ lone mark.Out)
+    c (codes "params") (way.Entered p) ++ (c (codes "body") way.Whole ++ lone item.Out)
 entered_word f p rule.Parameters k ds c fs = c (codes "items") (way.Entered p)
 entered_word f p rule.Parameter k ds c fs = c (codes "pattern") (way.Entered p)
 entered_word f p rule.Identifier k ds c fs = in_word f p ds
@@ -61,15 +61,15 @@ entered_word f p r k ds c fs = whole_word f r k ds c fs
 -- no parameters.
 abbrev pub opened_word : Known → Rule → Kind → Docs → OneField → AllFields → List Entry
 opened_word f rule.FunctionExpression k ds c fs =
-    if passes_on f k ds then lone mark.Nil ++ (lone mark.Body ++ c (codes "body") way.PassOn)
-    else c (codes "params") way.Whole ++ (lone mark.Body ++ c (codes "body") way.Whole)
+    if passes_on f k ds then lone item.Nil ++ (lone item.Body ++ c (codes "body") way.PassOn)
+    else c (codes "params") way.Whole ++ (lone item.Body ++ c (codes "body") way.Whole)
 opened_word f r k ds c fs = whole_word f r k ds c fs
 
 -- In the body of such a constructor the call that passes it on is so read.
 abbrev pub passed_word : Known → Rule → Kind → Docs → OneField → AllFields → List Entry
 passed_word f rule.Bare k ds c fs = fs way.PassOn
 passed_word f rule.Statement k ds c fs =
-    if is_passing f k ds then lone mark.PassOn else whole_word f rule.Statement k ds c fs
+    if is_passing f k ds then lone item.PassOn else whole_word f rule.Statement k ds c fs
 passed_word f r k ds c fs = whole_word f r k ds c fs
 
 -- A key that is a name, a text or a number computes nothing; in a sequence the last is the key.
@@ -77,18 +77,18 @@ abbrev pub keyed_word : Known → Rule → Kind → Docs → OneField → AllFie
 keyed_word f rule.Transparent k ds c fs = c (codes "expression") way.Keyed
 keyed_word f rule.Sequence k ds c fs =
     if is_long k ds then c (codes "expressions") way.InTurnKeyed
-    else whole_word f rule.Sequence k ds c fs ++ lone mark.Key
+    else whole_word f rule.Sequence k ds c fs ++ lone item.Key
 keyed_word f rule.PropertyName k ds c fs = []
 keyed_word f (rule.Literal m) k ds c fs = []
 keyed_word f rule.PrivateName k ds c fs = []
 keyed_word f rule.Number k ds c fs = []
-keyed_word f r k ds c fs = whole_word f r k ds c fs ++ lone mark.Key
+keyed_word f r k ds c fs = whole_word f r k ds c fs ++ lone item.Key
 
 -- Such a key is its own text; another key has none.
 abbrev pub key_text : Known → Rule → Kind → Docs → OneField → List Entry
 key_text f rule.Transparent k ds c = c (codes "expression") way.KeyText
 key_text f rule.Sequence k ds c = if is_long k ds then c (codes "expressions") way.LastText else []
-key_text f rule.PropertyName k ds c = spelled mark.Str (detail (first ds))
+key_text f rule.PropertyName k ds c = spelled item.Str (detail (first ds))
 key_text f (rule.Literal m) k ds c = spelled m (detail (first ds))
 key_text f rule.PrivateName k ds c = private_word f ds
 key_text f rule.Number k ds c = number_word k ds
@@ -104,8 +104,8 @@ keys_word r c f = []
 -- A field is its key's text and its value.
 abbrev pub field_word : Bool → Bool → OneField → List Entry
 field_word is_static is_accessor c =
-    detailed mark.Field nil (flag is_static ∷ flag is_accessor ∷ [])
-    ++ (c (codes "key") way.KeyText ++ (c (codes "value") way.Whole ++ lone mark.Define))
+    detailed item.Field nil (flag is_static ∷ flag is_accessor ∷ [])
+    ++ (c (codes "key") way.KeyText ++ (c (codes "value") way.Whole ++ lone item.Define))
 
 -- A static block of expressions alone is what they do; another one is a node.
 abbrev pub block_word : Known → Kind → Docs → OneField → AllFields → List Entry
@@ -135,7 +135,7 @@ is_constructor k ds = is_text (codes "constructor") (named (codes "kind") k ds)
 abbrev pub method_word : Kind → Docs → OneField → List Entry
 method_word k ds c =
     start k (detail (named (codes "kind") k ds) ∷ detail (named (codes "static") k ds) ∷ [])
-    ++ (c (codes "key") way.KeyText ++ (c (codes "value") way.Whole ++ lone mark.Close))
+    ++ (c (codes "key") way.KeyText ++ (c (codes "value") way.Whole ++ lone item.Close))
 
 -- the methods of a class
 abbrev pub methods_word : Known → Rule → Kind → Docs → OneField → AllFields → List Entry
@@ -149,6 +149,6 @@ constructor_word f rule.Bare k ds c fs = fs way.Constructor
 constructor_word f rule.Method k ds c fs =
     if is_constructor k ds
     then start k (detail (named (codes "kind") k ds) ∷ [])
-    ++ (c (codes "value") way.Opened ++ lone mark.Close)
+    ++ (c (codes "value") way.Opened ++ lone item.Close)
     else []
 constructor_word f r k ds c fs = []

@@ -6,15 +6,15 @@ use Rattle.oxt_tree.specs.Fields.{first}
 use Rattle.oxt_tree.specs.Doc.{Doc, Docs, flag, text}
 use Rattle.oxt_tree.specs.Fields.{named, field_of, is_nil, is_set, is_text, is_kind, is_empty_list}
 use Rattle.oxt_item.specs.Entry.{Entry, binding_text, detail, detailed, lone, spelled}
-use Rattle.oxt_forms.specs.Facts.{Known, is_made}
+use Rattle.oxt_facts.specs.Facts.{Known, is_made}
 use Rattle.oxt_forms.specs.Forms.{within, is_put, is_long, is_found, is_found_made, is_called, binding_of}
 use Rattle.oxt_forms.specs.Made.{base_in, base_key, base_name, is_found_made_on, is_keep, is_silent}
-use Rattle.oxt_privates.specs.Inside.{stored_at}
+use Rattle.oxt_facts.specs.Inside.{stored_at}
 use Rattle.oxt_word.specs.Node.{start, opened, OneField, AllFields}
 use Rattle.oxt_item.specs.declared.item.Binding.{Binding}
-use Rattle.oxt_item.specs.declared.item.Mark.{Mark}
+use Rattle.oxt_item.specs.declared.item.ItemKind.{ItemKind}
 use Rattle.oxt_item.specs.declared.item.Binding.TheVariants as binding
-use Rattle.oxt_item.specs.declared.item.Mark.TheVariants as mark
+use Rattle.oxt_item.specs.declared.item.ItemKind.TheVariants as item
 use Rattle.oxt_word.specs.declared.rule.Rule.{Rule}
 use Rattle.oxt_word.specs.declared.rule.Rule.TheVariants as rule
 use Rattle.oxt_word.specs.declared.way.Way.{Way}
@@ -23,13 +23,13 @@ use Rattle.oxt_word.specs.declared.way.Way.TheVariants as way
 -- the use of a name, which may be made
 abbrev pub name_word : Known → Docs → List Entry
 name_word f ds =
-    if is_made f (first ds) then spelled mark.Made (detail (first ds))
-    else spelled mark.Name (detail (first ds))
+    if is_made f (first ds) then spelled item.Made (detail (first ds))
+    else spelled item.Name (detail (first ds))
 
 -- the made name, or else the private name
 abbrev pub private_or : Docs → Option (List ℕ) → List Entry
-private_or ds None = spelled mark.Private (detail (first ds))
-private_or ds (Some m) = spelled mark.PrivateMade (text m)
+private_or ds None = spelled item.Private (detail (first ds))
+private_or ds (Some m) = spelled item.PrivateMade (text m)
 
 -- a private name, which may stand for a made name
 abbrev pub private_word : Known → Docs → List Entry
@@ -38,40 +38,40 @@ private_word f ds = private_or ds (stored_at f (first ds))
 -- a declared name, which may be made
 abbrev pub bind_word : Known → Binding → Bool → Docs → List Entry
 bind_word f b x ds =
-    detailed (if is_made f (first ds) then mark.BindMade else mark.Bind) (detail (first ds))
+    detailed (if is_made f (first ds) then item.BindMade else item.Bind) (detail (first ds))
     (text (binding_text b) ∷ flag x ∷ [])
 
--- The mark of a value that a made name holds.
-abbrev pub is_kept_mark : Mark → Bool
-is_kept_mark mark.Keep = true
-is_kept_mark m = false
+-- The kind of a value that a made name holds.
+abbrev pub is_kept_kind : ItemKind → Bool
+is_kept_kind item.Keep = true
+is_kept_kind m = false
 
 -- A value that a made name holds comes last.
 abbrev pub ends_kept : List Entry → Bool
 ends_kept [] = false
-ends_kept (e ∷ []) = is_kept_mark e.mark
+ends_kept (e ∷ []) = is_kept_kind e.kind
 ends_kept (e ∷ es) = ends_kept es
 
 -- What computes a value that is dropped. One that a made name holds is not.
 abbrev pub dropped : List Entry → List Entry
-dropped w = if ends_kept w then w else w ++ lone mark.Eval
+dropped w = if ends_kept w then w else w ++ lone item.Eval
 
 -- a number, or its raw text where it has no value
 abbrev pub number_word : Kind → Docs → List Entry
 number_word k ds =
-    spelled mark.Num (detail (if is_nil (named (codes "value") k ds)
+    spelled item.Num (detail (if is_nil (named (codes "value") k ds)
     then named (codes "raw") k ds
     else named (codes "value") k ds))
 
 -- the first line for the system, where there is one
 abbrev pub hash_word : Doc → List Entry
-hash_word d = if is_nil d then [] else spelled mark.Hash (detail d)
+hash_word d = if is_nil d then [] else spelled item.Hash (detail d)
 
 -- A member is its object, its key and the read.
 abbrev pub get_word : List ℕ → Way → Kind → Docs → OneField → List Entry
 get_word key w k ds c =
     c (codes "object") way.Whole
-    ++ (c key w ++ spelled mark.Get (flag (is_set (named (codes "optional") k ds))))
+    ++ (c key w ++ spelled item.Get (flag (is_set (named (codes "optional") k ds))))
 
 -- An assignment to a made name is the value, which the name then holds; one to a member is object, key,
 -- value and the write.
@@ -79,9 +79,9 @@ abbrev pub assignment_word : Known → Kind → Docs → OneField → AllFields 
 assignment_word f k ds c fs =
     if is_keep f k ds
     then c (codes "right") way.Whole
-    ++ spelled mark.Keep (detail (field_of (codes "name") (within (codes "left") k ds)))
+    ++ spelled item.Keep (detail (field_of (codes "name") (within (codes "left") k ds)))
     else if is_put k ds
-    then c (codes "left") way.Target ++ (c (codes "right") way.Whole ++ lone mark.Put)
+    then c (codes "left") way.Target ++ (c (codes "right") way.Whole ++ lone item.Put)
     else opened k ds (fs way.Whole)
 
 -- The elements of a sequence of two or more are dropped, but for the last.
@@ -93,7 +93,7 @@ sequence_word k ds c f =
 abbrev pub body_word : Kind → Docs → OneField → List Entry
 body_word k ds c =
     if is_kind kind.FunctionBody (named (codes "body") k ds) then c (codes "body") way.Whole
-    else start kind.ReturnStatement [] ++ (c (codes "body") way.Whole ++ lone mark.Close)
+    else start kind.ReturnStatement [] ++ (c (codes "body") way.Whole ++ lone item.Close)
 
 abbrev pub arrow_word : Kind → Docs → OneField → List Entry
 arrow_word k ds c = opened k ds (c (codes "params") way.Whole ++ body_word k ds c)
@@ -110,21 +110,21 @@ call_word k ds c f =
 -- `{}` is the empty object.
 abbrev pub object_word : Kind → Docs → AllFields → List Entry
 object_word k ds f =
-    if is_empty_list (named (codes "properties") k ds) then lone mark.New
+    if is_empty_list (named (codes "properties") k ds) then lone item.New
     else opened k ds (f way.Whole)
 
 -- the made name and the key of the member `m` in `x || (x = m || (m = {}))`
 abbrev pub base_word : Doc → List Entry
-base_word m = spelled mark.Made (detail (base_name m)) ++ spelled mark.Str (detail (base_key m))
+base_word m = spelled item.Made (detail (base_name m)) ++ spelled item.Str (detail (base_key m))
 
 -- `x || {}` is what x holds or the empty object; `x || (x = {})` the same, which x then holds;
 -- `x || (x = b.k || (b.k = {}))` the same, which stands on b under k.
 abbrev pub logical_word : Known → Kind → Docs → OneField → AllFields → List Entry
 logical_word f k ds c fs =
-    if is_found k ds then c (codes "left") way.Whole ++ lone mark.Found
-    else if is_found_made k ds then c (codes "left") way.Whole ++ lone mark.FoundMade
+    if is_found k ds then c (codes "left") way.Whole ++ lone item.Found
+    else if is_found_made k ds then c (codes "left") way.Whole ++ lone item.FoundMade
     else if is_found_made_on f k ds
-    then c (codes "left") way.Whole ++ (base_word (base_in k ds) ++ lone mark.FoundMadeOn)
+    then c (codes "left") way.Whole ++ (base_word (base_in k ds) ++ lone item.FoundMadeOn)
     else opened k ds (fs way.Whole)
 
 -- A declaration is its declarators; one without declarators is a node.
@@ -139,7 +139,7 @@ abbrev pub declarator_word : Known → Binding → Bool → Kind → Docs → On
 declarator_word f b x k ds c =
     if is_silent f k ds then []
     else if is_nil (named (codes "init") k ds) then c (codes "id") (way.Bound b x)
-    else c (codes "init") way.Whole ++ (lone mark.Set ++ c (codes "id") (way.Bound b x))
+    else c (codes "init") way.Whole ++ (lone item.Set ++ c (codes "id") (way.Bound b x))
 
 -- A function declaration is its node without the name, and then the name.
 abbrev pub function_word : Bool → Kind → Docs → OneField → List Entry
@@ -185,7 +185,7 @@ if_word k ds c =
 abbrev pub import_word : Kind → Docs → OneField → AllFields → List Entry
 import_word k ds c fs =
     if is_empty_list (named (codes "specifiers") k ds)
-    then opened k ds (lone mark.Nil ++ (c (codes "source") way.Whole ++ c (codes "withClause") way.Whole))
+    then opened k ds (lone item.Nil ++ (c (codes "source") way.Whole ++ c (codes "withClause") way.Whole))
     else opened k ds (fs way.Whole)
 
 -- An export of an empty list does nothing.
@@ -204,7 +204,7 @@ whole_word f rule.Name k ds c fs = name_word f ds
 whole_word f (rule.Spelled m) k ds c fs = spelled m (detail (first ds))
 whole_word f (rule.Literal m) k ds c fs = spelled m (detail (first ds))
 whole_word f rule.PrivateName k ds c fs = private_word f ds
-whole_word f rule.This k ds c fs = lone mark.This
+whole_word f rule.This k ds c fs = lone item.This
 whole_word f rule.Number k ds c fs = number_word k ds
 whole_word f rule.StaticMember k ds c fs = get_word (codes "property") way.KeyText k ds c
 whole_word f rule.ComputedMember k ds c fs = get_word (codes "expression") way.Whole k ds c

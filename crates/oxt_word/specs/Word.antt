@@ -1,8 +1,8 @@
 -- The effect word of a document: what its code does, as a flat list of items.
 use Rattle.std.specs.Prelude.{ℕ, List, [], ◌∷◌, ◌++◌, if◌then◌else◌}
 use Rattle.std.specs.Str.{bytes_eq}
-use Rattle.oxt_forms.specs.Facts.{Known}
-use Rattle.oxt_privates.specs.Inside.{inside}
+use Rattle.oxt_facts.specs.Facts.{Known}
+use Rattle.oxt_facts.specs.Inside.{inside}
 use Rattle.oxt_table.specs.Field.{Field}
 use Rattle.oxt_table.specs.Rows.{row_of}
 use Rattle.oxt_table.specs.declared.kind.Kind.{Kind}
@@ -16,7 +16,7 @@ use Rattle.oxt_word.specs.Erased.{is_gone, gone_word}
 use Rattle.oxt_word.specs.RuleOf.{rule_of}
 use Rattle.oxt_word.specs.Ways.{target_word, bound_word, exported_word, entered_word, opened_word, passed_word, keyed_word, key_text, keys_word, statics_word, fields_word, methods_word, constructor_word}
 use Rattle.oxt_word.specs.Whole.{dropped, whole_word}
-use Rattle.oxt_item.specs.declared.item.Mark.TheVariants as mark
+use Rattle.oxt_item.specs.declared.item.ItemKind.TheVariants as item
 use Rattle.oxt_word.specs.declared.rule.Rule.{Rule}
 use Rattle.oxt_word.specs.declared.way.Way.{Way}
 use Rattle.oxt_word.specs.declared.way.Way.TheVariants as way
@@ -62,7 +62,7 @@ final (doc d ds) last = []
 -- what a document does, read that way
 abbrev mutual
   pub said : Known → Doc → Way → List Entry
-  said f nil w = lone mark.Nil
+  said f nil w = lone item.Nil
   said f (flag b) w = []
   said f (number n) w = []
   said f (text t) w = []
@@ -85,8 +85,8 @@ abbrev mutual
 
   -- the field of that name; an absent part where there is none
   pub field_said : Known → Docs → List Field → List ℕ → Way → List Entry
-  field_said f no_docs rs name w = lone mark.Nil
-  field_said f (doc d ds) [] name w = lone mark.Nil
+  field_said f no_docs rs name w = lone item.Nil
+  field_said f (doc d ds) [] name w = lone item.Nil
   field_said f (doc d ds) (r ∷ rs) name w =
       if bytes_eq r.name name then said f d w else field_said f ds rs name w
 

@@ -14,11 +14,11 @@ use crate::put::{
 use crate::rule::Rule;
 use crate::way::Way;
 use crate::word::{put_field, put_fields, put_plain, put_whole};
-use oxt_forms::facts::Facts;
+use oxt_facts::facts::Facts;
 use oxt_forms::forms::is_long;
 use oxt_forms::made::is_quiet;
 use oxt_forms::passing::{is_passing, passes_on};
-use oxt_item::item::{Binding, Item, Mark};
+use oxt_item::item::{Binding, Item, ItemKind};
 use oxt_tree::ids::OutOfMemory;
 use oxt_tree::tree::Node;
 use std::vec;
@@ -52,7 +52,7 @@ pub(crate) fn put_class(
     put_open(facts.memory(), node, out)?;
     put_field(facts, node, "decorators", Way::Whole, out)?;
     put_class_parts(facts, node, out)?;
-    put_lone(facts.memory(), Mark::Close, out)?;
+    put_lone(facts.memory(), ItemKind::Close, out)?;
     put_field(facts, node, "id", Way::Bound(Binding::Class, exported), out)
 }
 
@@ -71,7 +71,7 @@ pub(crate) fn put_class_expression(
     put_field(facts, node, "decorators", Way::Whole, out)?;
     put_field(facts, node, "id", Way::Bound(Binding::Inner, false), out)?;
     put_class_parts(facts, node, out)?;
-    put_lone(facts.memory(), Mark::Close, out)
+    put_lone(facts.memory(), ItemKind::Close, out)
 }
 
 /// Puts the function of a constructor.
@@ -104,12 +104,12 @@ fn put_constructor_function(
         (docs_in node.now.parts.items) (each_field facts.now node.now) (all_fields facts.now node.now)) }
 {
     if passes_on(facts, node) {
-        put_lone(facts.memory(), Mark::Nil, out)?;
-        put_lone(facts.memory(), Mark::Body, out)?;
+        put_lone(facts.memory(), ItemKind::Nil, out)?;
+        put_lone(facts.memory(), ItemKind::Body, out)?;
         return put_field(facts, node, "body", Way::PassOn, out);
     }
     put_field(facts, node, "params", Way::Whole, out)?;
-    put_lone(facts.memory(), Mark::Body, out)?;
+    put_lone(facts.memory(), ItemKind::Body, out)?;
     put_field(facts, node, "body", Way::Whole, out)
 }
 
@@ -127,7 +127,11 @@ pub(crate) fn put_passed(
 {
     match rule {
         Rule::Bare => put_fields(facts, node.kind.rows(), &node.parts, Way::PassOn, out),
-        Rule::Statement if is_passing(facts, node) => put_lone(facts.memory(), Mark::PassOn, out),
+        Rule::Statement if is_passing(facts, node) => put_lone(
+            facts.memory(),
+            ItemKind::PassOn,
+            out,
+        ),
         _ => put_whole(facts, rule, node, out),
     }
 }
@@ -155,7 +159,7 @@ pub(crate) fn put_keyed(
         Rule::Number => Ok(()),
         _ => {
             put_whole(facts, rule, node, out)?;
-            put_lone(facts.memory(), Mark::Key, out)
+            put_lone(facts.memory(), ItemKind::Key, out)
         }
     }
 }
@@ -177,8 +181,8 @@ pub(crate) fn put_key_text(
         Rule::Sequence if is_long(node) => {
             put_field(facts, node, "expressions", Way::LastText, out)
         }
-        Rule::PropertyName => put_first(facts.memory(), Mark::Str, node, out),
-        Rule::Literal(mark) => put_first(facts.memory(), mark, node, out),
+        Rule::PropertyName => put_first(facts.memory(), ItemKind::Str, node, out),
+        Rule::Literal(kind) => put_first(facts.memory(), kind, node, out),
         Rule::PrivateName => put_private(facts, node, out),
         Rule::Number => put_number(facts.memory(), node, out),
         _ => Ok(()),
@@ -273,7 +277,7 @@ fn put_class_field(
     put_field_start(facts.memory(), is_static, is_accessor, out)?;
     put_field(facts, node, "key", Way::KeyText, out)?;
     put_field(facts, node, "value", Way::Whole, out)?;
-    put_lone(facts.memory(), Mark::Define, out)
+    put_lone(facts.memory(), ItemKind::Define, out)
 }
 
 /// Puts a static block.
@@ -319,7 +323,7 @@ fn put_method(facts: &Facts, node: &Node, out: &mut Vec<Item>) -> Result<(), Out
     put_start(node.kind, details, out)?;
     put_field(facts, node, "key", Way::KeyText, out)?;
     put_field(facts, node, "value", Way::Whole, out)?;
-    put_lone(facts.memory(), Mark::Close, out)
+    put_lone(facts.memory(), ItemKind::Close, out)
 }
 
 /// Puts the constructor of a class.
@@ -349,10 +353,10 @@ fn put_constructor_node(facts: &Facts, node: &Node, out: &mut Vec<Item>) -> Resu
     ensures { OnOk result (entries out.new.items
         ≡ entries out.old.items ++ (start node.now.kind (detail (named (codes "kind") node.now.kind
         (docs_in node.now.parts.items)) ∷ []) ++ (each_field facts.now node.now (codes "value") Way.Opened
-        ++ lone Mark.Close))) }
+        ++ lone ItemKind.Close))) }
 {
     let details = vec![in facts.memory(); field_atom(node, "kind")?]?;
     put_start(node.kind, details, out)?;
     put_field(facts, node, "value", Way::Opened, out)?;
-    put_lone(facts.memory(), Mark::Close, out)
+    put_lone(facts.memory(), ItemKind::Close, out)
 }

@@ -9,7 +9,7 @@ ghost use Rattle.oxt_word.specs.Node.{start};
 use crate::put::{put_lone, put_start};
 use crate::rule::Rule;
 use crate::way::Way;
-use oxt_item::item::{Binding, Item, Mark};
+use oxt_item::item::{Binding, Item, ItemKind};
 use oxt_table::kind::Kind;
 use oxt_tree::ids::OutOfMemory;
 use oxt_tree::tree::{Node, Part};
@@ -55,15 +55,15 @@ pub fn put_gone(alloc: Global, way: Way, out: &mut Vec<Item>) -> Result<(), OutO
 {
     match way {
         Way::Branch => put_empty_block(alloc, out),
-        Way::Alternate => put_lone(alloc, Mark::Nil, out),
+        Way::Alternate => put_lone(alloc, ItemKind::Nil, out),
         _ => Ok(()),
     }
 }
 
 /// Puts a block without statements.
 fn put_empty_block(alloc: Global, out: &mut Vec<Item>) -> Result<(), OutOfMemory>
-    ensures { OnOk result (entries out.new.items ≡ entries out.old.items ++ (start Kind.BlockStatement [] ++ lone Mark.Close)) }
+    ensures { OnOk result (entries out.new.items ≡ entries out.old.items ++ (start Kind.BlockStatement [] ++ lone ItemKind.Close)) }
 {
     put_start(Kind::BlockStatement, Vec::new(alloc), out)?;
-    put_lone(alloc, Mark::Close, out)
+    put_lone(alloc, ItemKind::Close, out)
 }

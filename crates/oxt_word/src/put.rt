@@ -9,17 +9,17 @@ ghost use Rattle.oxt_tree.specs.View.{docs_in, doc_or_nil, part_doc};
 ghost use Rattle.oxt_item.specs.Entry.{atom_doc, detail, detailed, entries, entry_of, lone, spelled};
 ghost use Rattle.oxt_word.specs.Node.{details, is_atom, is_detail, is_read, start};
 ghost use Rattle.oxt_word.specs.Ways.{in_word};
-ghost use Rattle.oxt_word.specs.Whole.{base_word, bind_word, dropped, ends_kept, hash_word, is_kept_mark, name_word, number_word, private_word};
-ghost use Rattle.oxt_forms.specs.Facts.{is_made};
-ghost use Rattle.oxt_privates.specs.Inside.{stored_at};
+ghost use Rattle.oxt_word.specs.Whole.{base_word, bind_word, dropped, ends_kept, hash_word, is_kept_kind, name_word, number_word, private_word};
+ghost use Rattle.oxt_facts.specs.Facts.{is_made};
+ghost use Rattle.oxt_facts.specs.Inside.{stored_at};
 ghost use Rattle.oxt_forms.specs.Forms.{within};
 ghost use Rattle.oxt_forms.specs.Made.{base_in};
 
+use oxt_facts::facts::Facts;
+use oxt_facts::inside::stored_at;
 use oxt_forms::base::{base_in, base_key, base_name};
-use oxt_forms::facts::Facts;
 use oxt_forms::forms::within;
-use oxt_item::item::{Atom, Binding, Item, Mark};
-use oxt_privates::inside::stored_at;
+use oxt_item::item::{Atom, Binding, Item, ItemKind};
 use oxt_table::holds::{Holds, Row};
 use oxt_table::kind::Kind;
 use oxt_tree::ids::OutOfMemory;
@@ -38,37 +38,37 @@ pub fn put(item: Item, out: &mut Vec<Item>) -> Result<(), OutOfMemory>
 }
 
 /// Puts an item that is not spelled.
-pub fn put_lone(alloc: Global, mark: Mark, out: &mut Vec<Item>) -> Result<(), OutOfMemory>
-    ensures { OnOk result (entries out.new.items ≡ entries out.old.items ++ lone mark) }
+pub fn put_lone(alloc: Global, kind: ItemKind, out: &mut Vec<Item>) -> Result<(), OutOfMemory>
+    ensures { OnOk result (entries out.new.items ≡ entries out.old.items ++ lone kind) }
 {
-    put_spelled(alloc, mark, Atom::Nothing, out)
+    put_spelled(alloc, kind, Atom::Nothing, out)
 }
 
 /// Puts an item with that spelling.
 pub fn put_spelled(
     alloc: Global,
-    mark: Mark,
+    kind: ItemKind,
     spelling: Atom,
     out: &mut Vec<Item>,
 ) -> Result<(), OutOfMemory>
     ensures { OnOk result (entries out.new.items
-        ≡ entries out.old.items ++ spelled mark (atom_doc spelling)) }
+        ≡ entries out.old.items ++ spelled kind (atom_doc spelling)) }
 {
-    put_detailed(mark, spelling, Vec::new(alloc), out)
+    put_detailed(kind, spelling, Vec::new(alloc), out)
 }
 
 /// Puts an item with that spelling and these further texts and flags.
 pub fn put_detailed(
-    mark: Mark,
+    kind: ItemKind,
     spelling: Atom,
     details: Vec<Atom>,
     out: &mut Vec<Item>,
 ) -> Result<(), OutOfMemory>
     ensures { OnOk result (entries out.new.items
-        ≡ entries out.old.items ++ detailed mark (atom_doc spelling) (map atom_doc details.items)) }
+        ≡ entries out.old.items ++ detailed kind (atom_doc spelling) (map atom_doc details.items)) }
 {
     let item = Item {
-        mark,
+        kind,
         spelling,
         details,
     };
@@ -80,7 +80,7 @@ pub fn put_start(kind: Kind, details: Vec<Atom>, out: &mut Vec<Item>) -> Result<
     ensures { OnOk result (entries out.new.items
         ≡ entries out.old.items ++ start kind (map atom_doc details.items)) }
 {
-    put_detailed(Mark::Open, Atom::Kind(kind), details, out)
+    put_detailed(ItemKind::Open, Atom::Kind(kind), details, out)
 }
 
 /// Puts the start of the node, with its texts and flags.
@@ -188,14 +188,14 @@ pub fn field_atom(node: &Node, name: &str) -> Result<Atom, OutOfMemory>
 /// Puts the node's own text, as an item.
 pub fn put_first(
     alloc: Global,
-    mark: Mark,
+    kind: ItemKind,
     node: &Node,
     out: &mut Vec<Item>,
 ) -> Result<(), OutOfMemory>
     ensures { OnOk result (entries out.new.items
-        ≡ entries out.old.items ++ spelled mark (detail (first (docs_in node.now.parts.items)))) }
+        ≡ entries out.old.items ++ spelled kind (detail (first (docs_in node.now.parts.items)))) }
 {
-    put_spelled(alloc, mark, first_atom(node)?, out)
+    put_spelled(alloc, kind, first_atom(node)?, out)
 }
 
 /// Puts the use of the name, which may be made.
@@ -203,12 +203,12 @@ pub fn put_name(facts: &Facts, node: &Node, out: &mut Vec<Item>) -> Result<(), O
     ensures { OnOk result (entries out.new.items
         ≡ entries out.old.items ++ name_word facts.now (docs_in node.now.parts.items)) }
 {
-    let mark = if begins_made(facts, node) {
-        Mark::Made
+    let kind = if begins_made(facts, node) {
+        ItemKind::Made
     } else {
-        Mark::Name
+        ItemKind::Name
     };
-    put_first(facts.memory(), mark, node, out)
+    put_first(facts.memory(), kind, node, out)
 }
 
 /// Whether the node's own text is the spelling of a made name.
@@ -229,9 +229,9 @@ pub fn put_private(facts: &Facts, node: &Node, out: &mut Vec<Item>) -> Result<()
     match stored_first(facts, node) {
         Some(made) => {
             let made = Name::new(facts.memory(), made)?;
-            put_spelled(facts.memory(), Mark::PrivateMade, Atom::Text(made), out)
+            put_spelled(facts.memory(), ItemKind::PrivateMade, Atom::Text(made), out)
         }
-        None => put_first(facts.memory(), Mark::Private, node, out),
+        None => put_first(facts.memory(), ItemKind::Private, node, out),
     }
 }
 
@@ -258,13 +258,13 @@ pub fn put_bind(
         ≡ entries out.old.items
         ++ bind_word facts.now binding exported (docs_in node.now.parts.items)) }
 {
-    let mark = if begins_made(facts, node) {
-        Mark::BindMade
+    let kind = if begins_made(facts, node) {
+        ItemKind::BindMade
     } else {
-        Mark::Bind
+        ItemKind::Bind
     };
     let details = vec![in facts.memory(); Atom::Binding(binding), Atom::Flag(exported)]?;
-    put_detailed(mark, first_atom(node)?, details, out)
+    put_detailed(kind, first_atom(node)?, details, out)
 }
 
 /// Puts the entry into a function, whose parameter is the name, by a call with that pure flag.
@@ -277,13 +277,13 @@ pub fn put_in(
     ensures { OnOk result (entries out.new.items
         ≡ entries out.old.items ++ in_word facts.now pure (docs_in node.now.parts.items)) }
 {
-    let mark = if begins_made(facts, node) {
-        Mark::InMade
+    let kind = if begins_made(facts, node) {
+        ItemKind::InMade
     } else {
-        Mark::In
+        ItemKind::In
     };
     let details = vec![in facts.memory(); Atom::Flag(pure)]?;
-    put_detailed(mark, first_atom(node)?, details, out)
+    put_detailed(kind, first_atom(node)?, details, out)
 }
 
 /// The name to which an assignment assigns.
@@ -313,8 +313,8 @@ fn put_member(alloc: Global, member: &Part, out: &mut Vec<Item>) -> Result<(), O
     ensures { OnOk result (entries out.new.items
         ≡ entries out.old.items ++ base_word (part_doc member.now)) }
 {
-    put_spelled(alloc, Mark::Made, atom_in(base_name(member))?, out)?;
-    put_spelled(alloc, Mark::Str, atom_in(base_key(member))?, out)
+    put_spelled(alloc, ItemKind::Made, atom_in(base_name(member))?, out)?;
+    put_spelled(alloc, ItemKind::Str, atom_in(base_key(member))?, out)
 }
 
 /// The text, number or flag itself; nothing where there is none.
@@ -336,7 +336,7 @@ pub fn put_dropped(alloc: Global, from: usize, out: &mut Vec<Item>) -> Result<()
     if ends_kept(out.as_slice(), from) {
         return Ok(());
     }
-    put_lone(alloc, Mark::Eval, out)
+    put_lone(alloc, ItemKind::Eval, out)
 }
 
 /// Whether a made name holds what stands from that place on.
@@ -348,15 +348,15 @@ fn ends_kept(items: &[Item], from: usize) -> bool
     if count <= from {
         return false;
     }
-    is_kept(items[count - 1].mark)
+    is_kept(items[count - 1].kind)
 }
 
-/// Whether it is the mark of a value that a made name holds.
-fn is_kept(mark: Mark) -> bool
-    ensures { result ≡ is_kept_mark mark }
+/// Whether it is the kind of a value that a made name holds.
+fn is_kept(kind: ItemKind) -> bool
+    ensures { result ≡ is_kept_kind kind }
 {
-    match mark {
-        Mark::Keep => true,
+    match kind {
+        ItemKind::Keep => true,
         _ => false,
     }
 }
@@ -370,10 +370,10 @@ pub fn put_field_start(
 ) -> Result<(), OutOfMemory>
     ensures { OnOk result (entries out.new.items
         ≡ entries out.old.items
-        ++ detailed Mark.Field nil (flag is_static ∷ flag is_accessor ∷ [])) }
+        ++ detailed ItemKind.Field nil (flag is_static ∷ flag is_accessor ∷ [])) }
 {
     let details = vec![in alloc; Atom::Flag(is_static), Atom::Flag(is_accessor)]?;
-    put_detailed(Mark::Field, Atom::Nothing, details, out)
+    put_detailed(ItemKind::Field, Atom::Nothing, details, out)
 }
 
 /// Puts a number, or its raw text where it has no value.
@@ -382,7 +382,7 @@ pub fn put_number(alloc: Global, node: &Node, out: &mut Vec<Item>) -> Result<(),
         ≡ entries out.old.items ++ number_word node.now.kind (docs_in node.now.parts.items)) }
 {
     let name = if node.lacks("value") { "raw" } else { "value" };
-    put_spelled(alloc, Mark::Num, field_atom(node, name)?, out)
+    put_spelled(alloc, ItemKind::Num, field_atom(node, name)?, out)
 }
 
 /// Puts the first line for the system, where there is one.
@@ -394,5 +394,5 @@ pub fn put_hash(alloc: Global, node: &Node, out: &mut Vec<Item>) -> Result<(), O
     if node.lacks("hashbang") {
         return Ok(());
     }
-    put_spelled(alloc, Mark::Hash, field_atom(node, "hashbang")?, out)
+    put_spelled(alloc, ItemKind::Hash, field_atom(node, "hashbang")?, out)
 }

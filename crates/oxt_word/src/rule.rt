@@ -1,6 +1,6 @@
 //! The rules by which nodes are read.
 
-use oxt_item::item::{Binding, Mark};
+use oxt_item::item::{Binding, ItemKind};
 
 /// How nodes of a kind are read.
 #[derive(Clone, Copy, Debug, PartialEq, Eq)]
@@ -20,9 +20,9 @@ pub enum Rule {
     /// The use of a name.
     Name,
     /// One item, with the node's text.
-    Spelled(Mark),
+    Spelled(ItemKind),
     /// The same, which may be the text of a key.
-    Literal(Mark),
+    Literal(ItemKind),
     /// The name of a property.
     PropertyName,
     /// A private name.

@@ -3,7 +3,7 @@ ghost use Rattle.std.specs.Prelude.{◌≡◌};
 ghost use Rattle.oxt_word.specs.RuleOf.{rule_of};
 
 use crate::rule::Rule;
-use oxt_item::item::{Binding, Mark};
+use oxt_item::item::{Binding, ItemKind};
 use oxt_table::kind::Kind;
 
 /// The rule by which nodes of the kind are read.
@@ -13,7 +13,7 @@ pub fn rule_of(kind: Kind) -> Rule
 {
     match kind {
         Kind::Program => Rule::Program,
-        Kind::Directive => Rule::Spelled(Mark::Dir),
+        Kind::Directive => Rule::Spelled(ItemKind::Dir),
         Kind::ExpressionStatement => Rule::Statement,
         Kind::BlockStatement => Rule::Plain,
         Kind::EmptyStatement => Rule::Plain,
@@ -77,7 +77,7 @@ pub fn rule_of(kind: Kind) -> Rule
         Kind::ThisExpression => Rule::This,
         Kind::Super => Rule::Plain,
         Kind::NumericLiteral => Rule::Number,
-        Kind::StringLiteral => Rule::Literal(Mark::Str),
+        Kind::StringLiteral => Rule::Literal(ItemKind::Str),
         Kind::BigIntLiteral => Rule::Plain,
         Kind::RegExpLiteral => Rule::Plain,
         Kind::MetaProperty => Rule::Plain,

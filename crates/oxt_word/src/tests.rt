@@ -1,8 +1,8 @@
 //! Words of small trees, written by hand. Many more stand in the table of `oxt_word_lines`.
 
 use crate::word::word_of;
-use oxt_forms::facts::Facts;
-use oxt_item::item::{Item, Mark};
+use oxt_facts::facts::Facts;
+use oxt_item::item::{Item, ItemKind};
 use oxt_table::kind::Kind;
 use oxt_table::word::Word;
 use oxt_tree::ids::{NodeId, OutOfMemory, Span};
@@ -70,28 +70,28 @@ fn program(alloc: Global) -> Result<Node, OutOfMemory> {
     Ok(node(Kind::Program, parts))
 }
 
-/// Whether the marks of the items are these.
-fn has_marks(items: &[Item], marks: &[Mark]) -> bool {
-    items.len() == marks.len()
+/// Whether the kinds of the items are these.
+fn has_kinds(items: &[Item], kinds: &[ItemKind]) -> bool {
+    items.len() == kinds.len()
         && items
             .iter()
-            .zip(marks)
-            .all(|(item, mark)| item.mark == *mark)
+            .zip(kinds)
+            .all(|(item, kind)| item.kind == *kind)
 }
 
 #[test]
 fn a_source_has_no_made_names(rt: HostRuntime) -> Result<(), Fail> {
     let alloc = rt.alloc();
     let items = word_of(&Facts::of_source(alloc), &program(alloc)?)?;
-    let marks = [
-        Mark::Bind,
-        Mark::Open,
-        Mark::Name,
-        Mark::Name,
-        Mark::Close,
-        Mark::Eval,
+    let kinds = [
+        ItemKind::Bind,
+        ItemKind::Open,
+        ItemKind::Name,
+        ItemKind::Name,
+        ItemKind::Close,
+        ItemKind::Eval,
     ];
-    assert_eq!(rt; has_marks(items.as_slice(), &marks), true);
+    assert_eq!(rt; has_kinds(items.as_slice(), &kinds), true);
     Ok(())
 }
 
@@ -103,7 +103,7 @@ fn a_name_is_made_where_the_source_has_it_not(rt: HostRuntime) -> Result<(), Fai
     names.take("y")?;
     let items = word_of(&Facts::of_output(alloc, &names, &program)?, &program)?;
     assert_eq!(rt;
-        has_marks(items.as_slice(), &[Mark::Name, Mark::Keep]),
+        has_kinds(items.as_slice(), &[ItemKind::Name, ItemKind::Keep]),
         true
     );
     Ok(())

@@ -21,15 +21,15 @@ use crate::put::{
 use crate::rule::Rule;
 use crate::rule_of::rule_of;
 use crate::way::Way;
+use oxt_facts::facts::Facts;
+use oxt_facts::inside::inside;
 use oxt_forms::base::is_found_made_on;
-use oxt_forms::facts::Facts;
 use oxt_forms::forms::{
     binding_of, is_called, is_found, is_found_made, is_long, is_put, lists_nothing,
 };
 use oxt_forms::made::{is_keep, is_silent};
-use oxt_item::item::{Atom, Binding, Item, Mark};
+use oxt_item::item::{Atom, Binding, Item, ItemKind};
 use oxt_item::tags::number_tags;
-use oxt_privates::inside::inside;
 use oxt_table::holds::Row;
 use oxt_table::kind::Kind;
 use oxt_tree::fields::place_of;
@@ -117,7 +117,7 @@ fn put_part(facts: &Facts, part: &Part, way: Way, out: &mut Vec<Item>) -> Result
         ≡ entries out.old.items ++ said facts.now (part_doc part.now) way) }
 {
     match part {
-        Part::Nothing => put_lone(facts.memory(), Mark::Nil, out),
+        Part::Nothing => put_lone(facts.memory(), ItemKind::Nil, out),
         Part::Node(node) => put_node(facts, node, way, out),
         Part::List(parts) => put_list(facts, parts, way, out),
         _ => Ok(()),
@@ -222,9 +222,9 @@ pub(crate) fn put_field(
     match place_of(node.kind.rows(), name) {
         Some(place) => match node.parts.get(place) {
             Some(part) => put_part(facts, part, way, out),
-            None => put_lone(facts.memory(), Mark::Nil, out),
+            None => put_lone(facts.memory(), ItemKind::Nil, out),
         },
-        None => put_lone(facts.memory(), Mark::Nil, out),
+        None => put_lone(facts.memory(), ItemKind::Nil, out),
     }
 }
 
@@ -283,7 +283,7 @@ pub(crate) fn put_plain(
 {
     put_open(facts.memory(), node, out)?;
     put_fields(facts, node.kind.rows(), &node.parts, way, out)?;
-    put_lone(facts.memory(), Mark::Close, out)
+    put_lone(facts.memory(), ItemKind::Close, out)
 }
 
 /// Puts what the node does, by its rule.
@@ -305,10 +305,10 @@ pub(crate) fn put_whole(
         Rule::Transparent => put_field(facts, node, "expression", Way::Whole, out),
         Rule::Erased => Ok(()),
         Rule::Name => put_name(facts, node, out),
-        Rule::Spelled(mark) => put_first(facts.memory(), mark, node, out),
-        Rule::Literal(mark) => put_first(facts.memory(), mark, node, out),
+        Rule::Spelled(kind) => put_first(facts.memory(), kind, node, out),
+        Rule::Literal(kind) => put_first(facts.memory(), kind, node, out),
         Rule::PrivateName => put_private(facts, node, out),
-        Rule::This => put_lone(facts.memory(), Mark::This, out),
+        Rule::This => put_lone(facts.memory(), ItemKind::This, out),
         Rule::Number => put_number(facts.memory(), node, out),
         Rule::StaticMember => put_get(facts, node, "property", Way::KeyText, out),
         Rule::ComputedMember => put_get(facts, node, "expression", Way::Whole, out),
@@ -379,7 +379,7 @@ fn put_get(
     put_field(facts, node, key, way, out)?;
     put_spelled(
         facts.memory(),
-        Mark::Get,
+        ItemKind::Get,
         Atom::Flag(node.flag("optional")),
         out,
     )
@@ -394,12 +394,12 @@ fn put_assignment(facts: &Facts, node: &Node, out: &mut Vec<Item>) -> Result<(),
 {
     if is_keep(facts, node) {
         put_field(facts, node, "right", Way::Whole, out)?;
-        return put_spelled(facts.memory(), Mark::Keep, target_atom(node)?, out);
+        return put_spelled(facts.memory(), ItemKind::Keep, target_atom(node)?, out);
     }
     if is_put(node) {
         put_field(facts, node, "left", Way::Target, out)?;
         put_field(facts, node, "right", Way::Whole, out)?;
-        return put_lone(facts.memory(), Mark::Put, out);
+        return put_lone(facts.memory(), ItemKind::Put, out);
     }
     put_plain(facts, node, Way::Whole, out)
 }
@@ -427,7 +427,7 @@ fn put_arrow(facts: &Facts, node: &Node, out: &mut Vec<Item>) -> Result<(), OutO
     put_open(facts.memory(), node, out)?;
     put_field(facts, node, "params", Way::Whole, out)?;
     put_body(facts, node, out)?;
-    put_lone(facts.memory(), Mark::Close, out)
+    put_lone(facts.memory(), ItemKind::Close, out)
 }
 
 /// Puts the body of an arrow function; an expression is returned.
@@ -442,7 +442,7 @@ fn put_body(facts: &Facts, node: &Node, out: &mut Vec<Item>) -> Result<(), OutOf
     }
     put_start(Kind::ReturnStatement, Vec::new(facts.memory()), out)?;
     put_field(facts, node, "body", Way::Whole, out)?;
-    put_lone(facts.memory(), Mark::Close, out)
+    put_lone(facts.memory(), ItemKind::Close, out)
 }
 
 /// Puts a call.
@@ -467,7 +467,7 @@ fn put_object(facts: &Facts, node: &Node, out: &mut Vec<Item>) -> Result<(), Out
         (all_fields facts.now node.now)) }
 {
     if lists_nothing(node, "properties") {
-        return put_lone(facts.memory(), Mark::New, out);
+        return put_lone(facts.memory(), ItemKind::New, out);
     }
     put_plain(facts, node, Way::Whole, out)
 }
@@ -481,16 +481,16 @@ fn put_logical(facts: &Facts, node: &Node, out: &mut Vec<Item>) -> Result<(), Ou
 {
     if is_found(node) {
         put_field(facts, node, "left", Way::Whole, out)?;
-        return put_lone(facts.memory(), Mark::Found, out);
+        return put_lone(facts.memory(), ItemKind::Found, out);
     }
     if is_found_made(node) {
         put_field(facts, node, "left", Way::Whole, out)?;
-        return put_lone(facts.memory(), Mark::FoundMade, out);
+        return put_lone(facts.memory(), ItemKind::FoundMade, out);
     }
     if is_found_made_on(facts, node) {
         put_field(facts, node, "left", Way::Whole, out)?;
         put_base(facts.memory(), node, out)?;
-        return put_lone(facts.memory(), Mark::FoundMadeOn, out);
+        return put_lone(facts.memory(), ItemKind::FoundMadeOn, out);
     }
     put_plain(facts, node, Way::Whole, out)
 }
@@ -535,7 +535,7 @@ fn put_declarator(
         return put_field(facts, node, "id", Way::Bound(binding, exported), out);
     }
     put_field(facts, node, "init", Way::Whole, out)?;
-    put_lone(facts.memory(), Mark::Set, out)?;
+    put_lone(facts.memory(), ItemKind::Set, out)?;
     put_field(facts, node, "id", Way::Bound(binding, exported), out)
 }
 
@@ -554,7 +554,7 @@ fn put_function(
     put_open(facts.memory(), node, out)?;
     put_field(facts, node, "params", Way::Whole, out)?;
     put_field(facts, node, "body", Way::Whole, out)?;
-    put_lone(facts.memory(), Mark::Close, out)?;
+    put_lone(facts.memory(), ItemKind::Close, out)?;
     put_field(
         facts,
         node,
@@ -575,7 +575,7 @@ fn put_if(facts: &Facts, node: &Node, out: &mut Vec<Item>) -> Result<(), OutOfMe
     put_field(facts, node, "test", Way::Whole, out)?;
     put_field(facts, node, "consequent", Way::Branch, out)?;
     put_field(facts, node, "alternate", Way::Alternate, out)?;
-    put_lone(facts.memory(), Mark::Close, out)
+    put_lone(facts.memory(), ItemKind::Close, out)
 }
 
 /// Puts an import.
@@ -596,14 +596,14 @@ fn put_import(facts: &Facts, node: &Node, out: &mut Vec<Item>) -> Result<(), Out
 fn put_bare_import(facts: &Facts, node: &Node, out: &mut Vec<Item>) -> Result<(), OutOfMemory>
     ensures { OnOk result (entries out.new.items
         ≡ entries out.old.items ++ opened node.now.kind (docs_in node.now.parts.items)
-        (lone Mark.Nil ++ (each_field facts.now node.now (codes "source") Way.Whole
+        (lone ItemKind.Nil ++ (each_field facts.now node.now (codes "source") Way.Whole
         ++ each_field facts.now node.now (codes "withClause") Way.Whole))) }
 {
     put_open(facts.memory(), node, out)?;
-    put_lone(facts.memory(), Mark::Nil, out)?;
+    put_lone(facts.memory(), ItemKind::Nil, out)?;
     put_field(facts, node, "source", Way::Whole, out)?;
     put_field(facts, node, "withClause", Way::Whole, out)?;
-    put_lone(facts.memory(), Mark::Close, out)
+    put_lone(facts.memory(), ItemKind::Close, out)
 }
 
 /// Puts an export of a list of names.
@@ -731,5 +731,5 @@ fn put_entry(facts: &Facts, pure: bool, node: &Node, out: &mut Vec<Item>) -> Res
 {
     put_field(facts, node, "params", Way::Entered(pure), out)?;
     put_field(facts, node, "body", Way::Whole, out)?;
-    put_lone(facts.memory(), Mark::Out, out)
+    put_lone(facts.memory(), ItemKind::Out, out)
 }

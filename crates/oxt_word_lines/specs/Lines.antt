@@ -2,7 +2,7 @@
 use Rattle.std.specs.Prelude.{ℕ, List, [], ◌∷◌, ◌++◌, map}
 use Rattle.oxt_tree.specs.Doc.{Doc, nil, flag, number, text, list, node}
 use Rattle.oxt_item.specs.Entry.{Entry}
-use Rattle.oxt_item.specs.Marks.{mark_name}
+use Rattle.oxt_item.specs.ItemKinds.{item_kind_name}
 use Rattle.serde_json.specs.Data as json
 use Rattle.serde_json.specs.Data.{Data}
 use Rattle.serde_json.specs.View.{items_of}
@@ -17,10 +17,10 @@ atom_data (text t) = json.string t
 atom_data (list ds) = json.null
 atom_data (node k i b e ds) = json.null
 
--- An item is an array: the name of its mark, what it is spelled, and its further texts and flags.
+-- An item is an array: the name of its kind, what it is spelled, and its further texts and flags.
 abbrev pub entry_data : Entry → Data
 entry_data e =
-    json.array (items_of (json.string (mark_name e.mark) ∷ atom_data e.spelling
+    json.array (items_of (json.string (item_kind_name e.kind) ∷ atom_data e.spelling
     ∷ map atom_data e.details))
 
 -- the text of the array, and a line feed

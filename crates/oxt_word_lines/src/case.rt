@@ -5,7 +5,7 @@
 
 use crate::lines::lines_of;
 use anyhow::{Context, Result, bail};
-use oxt_forms::facts::Facts;
+use oxt_facts::facts::Facts;
 use oxt_json::read_tree;
 use oxt_tree::tree::Program;
 use oxt_uid::uid::UidNames;

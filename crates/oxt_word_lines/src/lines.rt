@@ -39,8 +39,8 @@ fn put_line(alloc: Global, item: &Item, bytes: &mut Vec<u8>) -> Result<(), Alloc
 fn item_value(alloc: Global, item: &Item) -> Result<Value, AllocError>
     ensures { IfOk result (λ value. view value ≡ entry_data (entry_of item.now)) }
 {
-    let mark = Value::try_from_str(alloc, item.mark.name())?;
-    let mut values = vec![in alloc; mark, atom_value(alloc, &item.spelling)?]?;
+    let kind = Value::try_from_str(alloc, item.kind.name())?;
+    let mut values = vec![in alloc; kind, atom_value(alloc, &item.spelling)?]?;
     put_atoms(alloc, item.details.as_slice(), &mut values)?;
     Ok(Value::Array(values))
 }

@@ -2,7 +2,7 @@
 //! argument `tree` it reads a tree from standard input and writes its word as that of a source; with the
 //! argument `pair` it reads an object with a `source` and an `output`, and writes the word of the output.
 //!
-//! A word is written an item a line: a JSON array without spaces, of the name of the item's mark, what the
+//! A word is written an item a line: a JSON array without spaces, of the name of the item's kind, what the
 //! item is spelled, and its further texts and flags, in the order of the grammar. What is absent is `null`.
 //! The program `let x = 1` has the lines
 //!
@@ -27,7 +27,7 @@ use crate::case::{Case, output_lines};
 use crate::fault::Fault;
 use crate::lines::lines_of;
 use anyhow::{Context, Result, bail, ensure};
-use oxt_forms::facts::Facts;
+use oxt_facts::facts::Facts;
 use oxt_io::{ReaderSource, Sink, Source, WriterSink, read_to_limit, write_all};
 use oxt_json::read_tree;
 use oxt_word::word::word_of;

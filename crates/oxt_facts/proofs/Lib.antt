@@ -1,0 +1,4 @@
+pub mod Bindings
+pub mod Elements
+pub mod Shares
+pub mod Strips

@@ -1,0 +1,4 @@
+pub mod Facts
+pub mod Inside
+pub mod Privates
+pub mod Shared

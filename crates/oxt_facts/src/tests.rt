@@ -1,0 +1,4 @@
+//! Small trees, and what is known of their names.
+
+mod facts;
+mod inside;

@@ -1,0 +1,27 @@
+-- Loops that do one thing after the other.
+use Rattle.std.proofs.Common.{◌≡◌, ◌∙◌, refl, sym, ap, ℕ, ◌+◌, ◌<◌, ◌≤◌, List, [], ◌∷◌, length, drop, get_or, map, fold, Option}
+use Rattle.oxt_resolve.specs.Resolved.{all_used, with_used}
+use Rattle.oxt_scope.specs.OwnedViews.{owned_view, owned_views}
+use Rattle.oxt_scope.specs.declared.owners.OwnedName.{OwnedName}
+use Rattle.oxt_scoping.specs.Scoped.{Scoped}
+use Rattle.oxt_tree.proofs.Lists.{drop_at, drop_end}
+
+-- one more is done
+pub fold_next : {A B S : Type 0} (f : S → B → S) (v : A → B) (xs : List A) (i : ℕ) (x : A) (whole s t : S) → i < length xs → x ≡ get_or xs i x
+    → whole ≡ fold f s (map v (drop i xs)) → t ≡ f s (v x) → whole ≡ fold f t (map v (drop (i + 1) xs))
+fold_next f v xs i x whole s t h at so_far done =
+    so_far ∙ ap (λ ys. fold f s (map v ys)) (drop_at xs i x h at) ∙ ap (λ u. fold f u (map v (drop (i + 1) xs))) (sym done)
+
+-- all is done
+pub fold_end : {A B S : Type 0} (f : S → B → S) (v : A → B) (xs : List A) (i : ℕ) (whole s : S) → length xs ≤ i → whole ≡ fold f s (map v (drop i xs)) → s ≡ whole
+fold_end f v xs i whole s h so_far = sym (so_far ∙ ap (λ ys. fold f s (map v ys)) (drop_end xs i h))
+
+-- one reference more is made
+pub used_next : (names : ℕ → Option (List ℕ)) (os : List OwnedName) (i : ℕ) (o : OwnedName) (s t : Scoped) → i < length os → o ≡ get_or os i o → t ≡ with_used names s (owned_view o)
+    → all_used names (owned_views (drop i os)) s ≡ all_used names (owned_views (drop (i + 1) os)) t
+used_next names os i o s t h at done = ap (λ xs. all_used names (owned_views xs) s) (drop_at os i o h at) ∙ ap (λ u. all_used names (owned_views (drop (i + 1) os)) u) (sym done)
+
+pub used_end : (names : ℕ → Option (List ℕ)) (os : List OwnedName) (i : ℕ) (s : Scoped) → length os ≤ i → all_used names (owned_views (drop i os)) s ≡ s
+used_end names os i s h = ap (λ xs. all_used names (owned_views xs) s) (drop_end os i h)
+
+pub ruleset use_steps = (used_next, used_end)

@@ -1,0 +1,7 @@
+pub mod Alike
+pub mod Folds
+pub mod Gatherings
+pub mod Holding
+pub mod Meanings
+pub mod Steps
+pub mod Walks

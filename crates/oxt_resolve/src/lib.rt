@@ -1,0 +1,14 @@
+//! The table of a tree's scopes, symbols and references.
+#![tactic(auto)]
+
+mod enums;
+mod flags;
+pub mod laws;
+mod marks;
+mod opening;
+pub mod resolve;
+mod spellings;
+mod symbols;
+#[cfg(test)]
+mod tests;
+mod uses;
