@@ -1,7 +1,10 @@
 -- What each step of the work says of the bytes.
 use Rattle.std.proofs.Common.{◌≡◌, ℕ, List, Bool, true, false, Option, None, Some, refl, ap, ◌∙◌, sym, subst}
 use Rattle.std.proofs.lemmas.Bool.{false≢true}
-use Rattle.std.specs.Prelude.{slice_get}
+use Rattle.std.specs.Prelude.{if◌then◌else◌, option_map, slice_get}
+use Rattle.oxt_annotations.proofs.Erasing.{output_erased}
+use Rattle.oxt_annotations.specs.Stripped.{stripped}
+use Rattle.oxt_check.specs.Faults.{IsFaultOf, first_fault}
 use Rattle.oxt_erase.specs.Erased.{erased}
 use Rattle.oxt_erase.specs.Unbuilt.{unbuilt}
 use Rattle.oxt_json.specs.Spelling.{Reading, no_value, wrong, tree, reading}
@@ -10,8 +13,8 @@ use Rattle.oxt_io.specs.Passed.{GaveAll}
 use Rattle.oxt_transform.specs.Faults.{refusal_in, IsReasonFor}
 use Rattle.oxt_transform.specs.Outcomes.{IfRefused, IsDoneOrMemory, IsRefusedMemoryOrWriteFault, NothingStands, OnWriteFault, Reported}
 use Rattle.oxt_json_write.specs.Spelled.{text_of}
-use Rattle.oxt_transform.specs.Lowering.{Lowers}
-use Rattle.oxt_transform.specs.Settings.{is_script, wrong_setting}
+use Rattle.oxt_transform.specs.Lowering.{Lowers, OnPass, Passes}
+use Rattle.oxt_transform.specs.Settings.{differs, is_javascript, is_script, wrong_setting}
 use Rattle.oxt_transform.specs.declared.program.Outcome.{Outcome}
 use Rattle.oxt_transform.specs.declared.program.Outcome.TheVariants.{Done, Refused, Usage, ReadFault, WriteFault, Memory, TooLong}
 use Rattle.oxt_transform.specs.Refusals.{Difference, misfit_at, typescript_at, setting_at, item_at, Refusal, json, shape, unbuilt_form, uncertified, Judges, names_of, HasUnbuilt, IsTested, Refuses, Accepts}
@@ -100,3 +103,45 @@ module _ (bytes : List ℕ) (source output : Doc) (next : ℕ) (before : List En
       let as_names = subst (λ ns. Judges before ns was_script output None) names judged in
       let as_script = subst (λ b. Judges before (names_of source) b output None) script as_names in
       record { source = source; next = next; output = output; spelled = read; erases = is; valid = judged.0; plain = judged.1; settings = as_script.2; same_word = sym as_script.3 ∙ said; written = written }
+
+-- ---- what a tree says that the walk left
+
+right_language : (a b : Bool) (x y : List ℕ) → (if a then Some x else if b then None else Some y) ≡ None → b ≡ true
+right_language true b x y h = cc
+right_language false true x y h = refl
+right_language false false x y h = cc
+
+named_form : (o : Option (List ℕ)) (r : Refusal) (bytes : List ℕ) (source : Doc) (next : ℕ) → reading bytes ≡ tree source next → unbuilt source ≡ o → option_map unbuilt_form o ≡ Some r → Refuses r bytes
+named_form None r bytes source next read form h = cc
+named_form (Some kind) r bytes source next read form h =
+    let same : unbuilt_form kind ≡ r = cc in
+    subst (λ (x : Refusal). Refuses x bytes) same (record { source = source; next = next; spelled = read; form = form })
+
+no_form : (o : Option (List ℕ)) → option_map unbuilt_form o ≡ None → o ≡ None
+no_form None h = refl
+no_form (Some kind) h = cc
+
+module _ (source output : Doc) (before : List Entry) (taken : List (List ℕ)) (was_script : Bool) where
+  pub walked : (passed : Bool) → first_fault source ≡ None → stripped output ≡ stripped source → is_tree source ≡ true → before ≡ word of_source source → taken ≡ names_of source → was_script ≡ is_script source
+      → OnPass passed (Judges before taken was_script output None) → OnPass passed (Passes source output)
+  walked false built left whole said names script judged = tt
+  walked true built left whole said names script judged =
+      let language = right_language (differs was_script (is_script output)) (is_javascript output) _ _ judged.2 in
+      let as_word = subst (λ w. Judges w taken was_script output None) said judged in
+      let as_names = subst (λ ns. Judges (word of_source source) ns was_script output None) names as_word in
+      record { built = no_form (unbuilt source) built; erases = output_erased source output left whole judged.0 judged.1 language; judged = subst (λ b. Judges (word of_source source) (names_of source) b output None) script as_names }
+
+module _ (bytes : List ℕ) (source : Doc) (next : ℕ) (read : reading bytes ≡ tree source next) where
+  pub passes_lowers : (passed : Bool) (text : List ℕ) (output : Doc) → passed ≡ true → OnPass passed (Passes source output) → text ≡ text_of output → Lowers bytes text
+  passes_lowers false text output is p written = absurd (false≢true is)
+  passes_lowers true text output is p written =
+      record { source = source; next = next; output = output; spelled = read; erases = p.erases; valid = p.judged.0; plain = p.judged.1; settings = p.judged.2; same_word = sym p.judged.3; written = written }
+
+  pub passes_accepts : (passed : Bool) (output : Doc) → passed ≡ true → OnPass passed (Passes source output) → Accepts bytes
+  passes_accepts false output is p = absurd (false≢true is)
+  passes_accepts true output is p =
+      record { source = source; next = next; spelled = read; built = p.built; judged = subst (λ d. Judges (word of_source source) (names_of source) (is_script source) d None) p.erases p.judged }
+
+  pub fault_refuses : (came : Option Refusal) → IsFaultOf came source → IsReasonFor came bytes
+  fault_refuses None h = tt
+  fault_refuses (Some r) h = named_form (unbuilt source) r bytes source next read refl h

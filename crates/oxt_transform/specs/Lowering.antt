@@ -1,6 +1,7 @@
 -- What lowering the bytes of a tree gives.
-use Rattle.std.specs.Prelude.{◌≡◌, ℕ, List, true, None}
+use Rattle.std.specs.Prelude.{◌≡◌, ℕ, List, Bool, true, false, None, ⊤}
 use Rattle.oxt_erase.specs.Erased.{erased}
+use Rattle.oxt_erase.specs.Unbuilt.{unbuilt}
 use Rattle.oxt_json.specs.Spelling.{reading, tree}
 use Rattle.oxt_json_write.specs.Spelled.{text_of}
 use Rattle.oxt_tree.specs.Doc.{Doc}
@@ -8,7 +9,7 @@ use Rattle.oxt_valid.specs.Plain.{is_plain}
 use Rattle.oxt_valid.specs.Valid.{is_tree}
 use Rattle.oxt_transform.specs.Settings.{is_script, wrong_setting}
 use Rattle.oxt_facts.specs.Facts.{of_output, of_source}
-use Rattle.oxt_transform.specs.Refusals.{names_of}
+use Rattle.oxt_transform.specs.Refusals.{Judges, names_of}
 use Rattle.oxt_word.specs.Word.{word}
 
 -- The bytes spell a source tree, and the text is that of a valid and plain tree of JavaScript that has the source's
@@ -24,3 +25,14 @@ pub record Lowers (bytes text : List ℕ) : Type 0 where
   pub settings : wrong_setting (is_script source) output ≡ None
   pub same_word : word (of_output (names_of source) output) output ≡ word of_source source
   pub written : text ≡ text_of output
+
+-- The source has no unbuilt form, and the output is what erasing makes of it and passes its test.
+pub record Passes (source output : Doc) : Type 0 where
+  pub built : unbuilt source ≡ None
+  pub erases : output ≡ erased source
+  pub judged : Judges (word of_source source) (names_of source) (is_script source) output None
+
+-- a fact where the test is passed
+abbrev pub OnPass : Bool → Type 0 → Type 0
+OnPass true P = P
+OnPass false P = ⊤

@@ -5,6 +5,8 @@ ghost use Rattle.oxt_tree.specs.Names.{name_bytes};
 ghost use Rattle.oxt_transform.specs.Refusals.{Judges, difference_in};
 ghost use Rattle.oxt_tree.specs.View.{node_doc};
 ghost use Rattle.oxt_item.specs.Entry.{entries};
+ghost use Rattle.oxt_facts.specs.Facts.{of_source};
+ghost use Rattle.oxt_word.specs.Word.{word};
 
 pub use oxt_check::fault::Mismatch;
 use oxt_facts::facts::Facts;
@@ -47,6 +49,13 @@ pub fn find_mismatch(
         Some(Difference { index, .. }) => Ok(Some(Mismatch::Item { index })),
         None => Ok(None),
     }
+}
+
+/// The effect word of the source.
+pub(crate) fn source_word(alloc: Global, root: &Node) -> Result<Vec<Item>, OutOfMemory>
+    ensures { IfOk result (λ items. entries items.items ≡ word of_source (node_doc root.now)) }
+{
+    word_of(&Facts::of_source(alloc), root)
 }
 
 /// The setting in which the lowered program is wrong.

@@ -2,9 +2,11 @@
 #![tactic(auto)]
 
 pub mod certificate;
+mod erasing;
 pub mod fault;
 pub mod program;
 pub mod transform;
+mod walking;
 
 pub use certificate::Mismatch;
 pub use fault::Fault;

@@ -1,5 +1,6 @@
 use super::*;
 use crate::certificate::find_mismatch;
+use crate::walking::lower_by_walk;
 use oxt_facts::facts::Facts;
 use oxt_json::read_tree;
 use oxt_uid::uid::UidNames;
@@ -22,6 +23,20 @@ fn a_type_is_erased(rt: HostRuntime) -> Result<(), Fail> {
     assert_eq!(rt; out.bytes(), OUTPUT.as_bytes());
     assert_eq!(rt; err.bytes().len(), 0);
     Ok(())
+}
+
+#[test]
+fn the_walk_lowers_by_itself(rt: HostRuntime) -> Result<(), Fail> {
+    let alloc = rt.alloc();
+    let options = TransformOptions::defaults(alloc)?;
+    let mut program = match read_tree(alloc, SOURCE.as_bytes()) {
+        Ok(program) => program,
+        Err(_) => return Err("no tree".into()),
+    };
+    match lower_by_walk(alloc, &mut program, &options) {
+        Ok(true) => Ok(()),
+        _ => Err("the tree of the walk does not pass".into()),
+    }
 }
 
 #[test]

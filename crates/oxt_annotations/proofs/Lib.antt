@@ -1,0 +1,7 @@
+pub mod Defaults
+pub mod Dropped
+pub mod Erasing
+pub mod Insides
+pub mod Plain
+pub mod Trees
+pub mod Truth

@@ -1,0 +1,282 @@
+//! The pass that erases types.
+ghost use Rattle.std.specs.Prelude.{◌≡◌, OnOk, true};
+ghost use Rattle.oxt_annotations.specs.Stripped.{stripped};
+ghost use Rattle.oxt_traverse.specs.Level.{IsAside, IsLevel};
+ghost use Rattle.oxt_tree.specs.View.{node_doc};
+ghost use Rattle.oxt_walk.specs.Idle.{IsIdle};
+
+use crate::fields::clear_types;
+use crate::opening::open_wrapper;
+use crate::statements::drop_declarations;
+use oxt_ctx::context::TraverseCtx;
+use oxt_traverse::hook::Hook;
+use oxt_traverse::traverse::Traverse;
+use oxt_tree::ids::OutOfMemory;
+use oxt_tree::tree::{Node, Part};
+use oxt_walk::walk::walk_program;
+
+/// Erases the types of the program, in one walk: what it is without types, it is afterwards too.
+///
+/// `program` is a node of kind `Program`.
+///
+/// # Errors
+///
+/// `OutOfMemory` for want of memory or of numbers alone. The tree and the context may then only be
+/// dropped.
+pub fn erase_annotations(program: &mut Node, ctx: &mut TraverseCtx) -> Result<(), OutOfMemory>
+    requires idle { IsIdle true ctx.old }
+    ensures level { OnOk result (IsLevel ctx.old ctx.new) }
+    ensures read { OnOk result (stripped (node_doc program.new) ≡ stripped (node_doc program.old)) }
+    ensures aside { OnOk result (IsAside true ctx.old ctx.new) }
+{
+    walk_program(&mut TypeScriptAnnotations::new(), program, ctx)
+}
+
+/// The pass that erases what stands for nothing at run time: statements that only declare, fields
+/// that only TypeScript has, and the wrappers around expressions. What is left of a tree without
+/// its types, it keeps. It puts nothing aside.
+#[derive(Clone, Copy, Debug)]
+pub struct TypeScriptAnnotations;
+
+impl TypeScriptAnnotations {
+    /// The pass.
+    pub fn new() -> TypeScriptAnnotations {
+        TypeScriptAnnotations
+    }
+}
+
+impl Traverse for TypeScriptAnnotations {
+    ghost use Rattle.std.specs.Prelude.{true};
+    ghost use Rattle.oxt_annotations.specs.Reads.{reads_stripped};
+    ghost use Rattle.oxt_annotations.specs.Stripped.{stripped};
+    ghost use Rattle.oxt_traverse.specs.Reading.{watches_nothing};
+
+    ghost read = { stripped };
+
+    ghost quiet = { true };
+
+    fn at_node(
+        &mut self,
+        _hook: Hook,
+        _node: &Node,
+        _ctx: &TraverseCtx,
+    ) -> Result<(), OutOfMemory> {
+        Ok(())
+    }
+
+    fn at_statements(
+        &mut self,
+        _hook: Hook,
+        _statements: &[Part],
+        _ctx: &TraverseCtx,
+    ) -> Result<(), OutOfMemory> {
+        Ok(())
+    }
+
+    fn enter_program(
+        &mut self,
+        node: &mut Node,
+        _ctx: &mut TraverseCtx,
+    ) -> Result<(), OutOfMemory> {
+        clear_types(node);
+        Ok(())
+    }
+
+    fn enter_statements(
+        &mut self,
+        statements: &mut Vec<Part>,
+        _ctx: &mut TraverseCtx,
+    ) -> Result<(), OutOfMemory> {
+        drop_declarations(statements);
+        Ok(())
+    }
+
+    fn enter_expression(
+        &mut self,
+        node: &mut Node,
+        _ctx: &mut TraverseCtx,
+    ) -> Result<(), OutOfMemory> {
+        open_wrapper(node);
+        Ok(())
+    }
+
+    fn enter_chain_element(
+        &mut self,
+        node: &mut Node,
+        _ctx: &mut TraverseCtx,
+    ) -> Result<(), OutOfMemory> {
+        open_wrapper(node);
+        Ok(())
+    }
+
+    fn enter_simple_assignment_target(
+        &mut self,
+        node: &mut Node,
+        _ctx: &mut TraverseCtx,
+    ) -> Result<(), OutOfMemory> {
+        open_wrapper(node);
+        Ok(())
+    }
+
+    fn enter_assignment_target(
+        &mut self,
+        node: &mut Node,
+        _ctx: &mut TraverseCtx,
+    ) -> Result<(), OutOfMemory> {
+        open_wrapper(node);
+        Ok(())
+    }
+
+    fn enter_class(&mut self, node: &mut Node, _ctx: &mut TraverseCtx) -> Result<(), OutOfMemory> {
+        clear_types(node);
+        Ok(())
+    }
+
+    fn enter_method_definition(
+        &mut self,
+        node: &mut Node,
+        _ctx: &mut TraverseCtx,
+    ) -> Result<(), OutOfMemory> {
+        clear_types(node);
+        Ok(())
+    }
+
+    fn enter_accessor_property(
+        &mut self,
+        node: &mut Node,
+        _ctx: &mut TraverseCtx,
+    ) -> Result<(), OutOfMemory> {
+        clear_types(node);
+        Ok(())
+    }
+
+    fn enter_property_definition(
+        &mut self,
+        node: &mut Node,
+        _ctx: &mut TraverseCtx,
+    ) -> Result<(), OutOfMemory> {
+        clear_types(node);
+        Ok(())
+    }
+
+    fn enter_function(
+        &mut self,
+        node: &mut Node,
+        _ctx: &mut TraverseCtx,
+    ) -> Result<(), OutOfMemory> {
+        clear_types(node);
+        Ok(())
+    }
+
+    fn enter_arrow_function_expression(
+        &mut self,
+        node: &mut Node,
+        _ctx: &mut TraverseCtx,
+    ) -> Result<(), OutOfMemory> {
+        clear_types(node);
+        Ok(())
+    }
+
+    fn enter_variable_declarator(
+        &mut self,
+        node: &mut Node,
+        _ctx: &mut TraverseCtx,
+    ) -> Result<(), OutOfMemory> {
+        clear_types(node);
+        Ok(())
+    }
+
+    fn enter_call_expression(
+        &mut self,
+        node: &mut Node,
+        _ctx: &mut TraverseCtx,
+    ) -> Result<(), OutOfMemory> {
+        clear_types(node);
+        Ok(())
+    }
+
+    fn enter_new_expression(
+        &mut self,
+        node: &mut Node,
+        _ctx: &mut TraverseCtx,
+    ) -> Result<(), OutOfMemory> {
+        clear_types(node);
+        Ok(())
+    }
+
+    fn enter_tagged_template_expression(
+        &mut self,
+        node: &mut Node,
+        _ctx: &mut TraverseCtx,
+    ) -> Result<(), OutOfMemory> {
+        clear_types(node);
+        Ok(())
+    }
+
+    fn enter_formal_parameter(
+        &mut self,
+        node: &mut Node,
+        _ctx: &mut TraverseCtx,
+    ) -> Result<(), OutOfMemory> {
+        clear_types(node);
+        Ok(())
+    }
+
+    fn enter_formal_parameter_rest(
+        &mut self,
+        node: &mut Node,
+        _ctx: &mut TraverseCtx,
+    ) -> Result<(), OutOfMemory> {
+        clear_types(node);
+        Ok(())
+    }
+
+    fn enter_catch_parameter(
+        &mut self,
+        node: &mut Node,
+        _ctx: &mut TraverseCtx,
+    ) -> Result<(), OutOfMemory> {
+        clear_types(node);
+        Ok(())
+    }
+
+    fn enter_jsx_opening_element(
+        &mut self,
+        node: &mut Node,
+        _ctx: &mut TraverseCtx,
+    ) -> Result<(), OutOfMemory> {
+        clear_types(node);
+        Ok(())
+    }
+
+    fn enter_import_declaration(
+        &mut self,
+        node: &mut Node,
+        _ctx: &mut TraverseCtx,
+    ) -> Result<(), OutOfMemory> {
+        clear_types(node);
+        Ok(())
+    }
+
+    fn enter_export_all_declaration(
+        &mut self,
+        node: &mut Node,
+        _ctx: &mut TraverseCtx,
+    ) -> Result<(), OutOfMemory> {
+        clear_types(node);
+        Ok(())
+    }
+
+    fn enter_export_from_declaration(
+        &mut self,
+        node: &mut Node,
+        _ctx: &mut TraverseCtx,
+    ) -> Result<(), OutOfMemory> {
+        clear_types(node);
+        Ok(())
+    }
+
+    ghost lawful = { reads_stripped };
+
+    ghost watching = { watches_nothing };
+}

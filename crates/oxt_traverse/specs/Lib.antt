@@ -1,0 +1,4 @@
+pub mod Level
+pub mod Reached
+pub mod Reading
+pub mod Visits

@@ -1,0 +1,7 @@
+//! Hooks on the nodes of a tree, and which of them a node reaches.
+#![tactic(auto)]
+
+pub mod dispatch;
+pub mod hook;
+pub mod nothing;
+pub mod traverse;

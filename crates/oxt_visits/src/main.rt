@@ -1,0 +1,49 @@
+//! Shows the hooks that a walk runs: reads a tree from standard input, and prints a line for each hook
+//! that runs on it, in their order.
+#![tactic(auto)]
+
+mod recorder;
+
+use crate::recorder::Recorder;
+use anyhow::{Result, bail};
+use oxt_ctx::context::TraverseCtx;
+use oxt_io::{ReaderSource, read_to_limit};
+use oxt_json::read_tree;
+use oxt_options::TransformOptions;
+use oxt_options::state::TransformState;
+use oxt_plan::plan::Plan;
+use oxt_resolve::resolve::resolve;
+use oxt_tree::ids::OutOfMemory;
+use oxt_tree::tree::Program;
+use oxt_walk::walk::walk_program;
+use std::alloc::Global;
+
+// The most bytes of a tree.
+const LIMIT: usize = 16_777_216;
+
+fn main(rt: HostRuntime) -> Result<()> {
+    let mut source = ReaderSource::new(rt.stdin());
+    let Ok(bytes) = read_to_limit(rt.alloc(), &mut source, LIMIT) else {
+        bail!("the tree is not read");
+    };
+    let Ok(program) = read_tree(rt.alloc(), bytes.as_slice()) else {
+        bail!("this is no tree");
+    };
+    let Ok(text) = lines_of(rt.alloc(), program) else {
+        bail!("memory ran out");
+    };
+    let text = text.as_str();
+    print!(rt; "{text}")?;
+    Ok(())
+}
+
+// The lines of the hooks that a walk of the program runs.
+fn lines_of(alloc: Global, mut program: Program) -> Result<String, OutOfMemory> {
+    let scoping = resolve(alloc, &program.root)?;
+    let options = TransformOptions::defaults(alloc)?;
+    let state = TransformState::new(&options, false);
+    let mut ctx = TraverseCtx::new(alloc, scoping, Plan::empty(alloc), state, program.ids);
+    let mut recorder = Recorder::new(alloc);
+    walk_program(&mut recorder, &mut program.root, &mut ctx)?;
+    Ok(recorder.lines)
+}

@@ -1,0 +1,5 @@
+pub mod Closing
+pub mod Imports
+pub mod Readings
+pub mod Steps
+pub mod Visiting

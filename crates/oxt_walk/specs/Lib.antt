@@ -1,0 +1,5 @@
+pub mod Class
+pub mod Closed
+pub mod Idle
+pub mod Place
+pub mod Visited
