@@ -14,7 +14,7 @@ import json
 import random
 
 import trees
-from trees import Differences, run, words_and_cases
+from trees import Differences, run, wanted_of, words_and_cases
 
 
 class Reading(trees.Reading):
@@ -124,10 +124,7 @@ def enum_trees(seed, count):
         yield f"enums {number}", json.dumps(tree, separators=(",", ":")).encode()
 
 
-def compare(reading, program, name, text, differences):
-    wanted = reading.lines(text)
-    if wanted is None:
-        return
+def compare(program, name, text, wanted, differences):
     first, second = run(program, "constants", text), run(program, "blocks", text)
     if "this is no tree" in first[2]:
         differences.add(refused=1)
@@ -143,8 +140,8 @@ def compare(reading, program, name, text, differences):
 def main():
     reading, program, cases = words_and_cases(__doc__, Reading, {"enums": enum_trees})
     differences = Differences()
-    for name, text in cases:
-        compare(reading, program, name, text, differences)
+    for name, text, wanted in wanted_of(cases, reading.lines):
+        compare(program, name, text, wanted, differences)
     differences.end()
 
 

@@ -9,7 +9,7 @@ program `oxt_owners`. What the reading takes for no tree is passed over. Prints 
 the counts. The status is 1 if there is a difference, and else 0.
 """
 import trees
-from trees import Differences, run, words_and_cases
+from trees import Differences, run, wanted_of, words_and_cases
 
 
 class Reading(trees.Reading):
@@ -33,10 +33,7 @@ class Reading(trees.Reading):
 def main():
     reading, program, cases = words_and_cases(__doc__, Reading)
     differences = Differences()
-    for name, text in cases:
-        wanted = reading.lines(text)
-        if wanted is None:
-            continue
+    for name, text, wanted in wanted_of(cases, reading.lines):
         differences.add(trees=1, names=len(wanted))
         status, found, _ = run(program, "tree", text)
         if (status, found) != (0, wanted):

@@ -14,7 +14,7 @@ else 0.
 import collections
 
 import trees
-from trees import Differences, run, words_and_cases
+from trees import Differences, run, wanted_of, words_and_cases
 
 SCOPE_FLAGS = {"program": {"Top"}, "function": {"Function"}, "staticblock": {"ClassStaticBlock"}, "enum": {"EnumBody"},
                "namespace": {"NamespaceBody"}}
@@ -166,10 +166,7 @@ def shown(table):
 def main():
     reading, program, cases = words_and_cases(__doc__, Reading)
     differences = Differences()
-    for name, text in cases:
-        wanted = reading.table(text)
-        if wanted is None:
-            continue
+    for name, text, wanted in wanted_of(cases, reading.table):
         differences.add(trees=1, rows=sum(map(len, wanted.values())))
         status, lines, _ = run(program, "tree", text)
         found = table_of(lines) if status == 0 else {}

@@ -53,6 +53,14 @@ class Reading:
             return None
 
 
+def wanted_of(cases, read):
+    """The names and the bytes of those cases that are trees, with what the reading's call makes of them."""
+    for name, text in cases:
+        wanted = read(text)
+        if wanted is not None:
+            yield name, text, wanted
+
+
 class Differences:
     """Counts what was compared, and shows the first of the trees that differ."""
 
