@@ -461,7 +461,7 @@ def unbuilt_source(g):
     arms = [(k, "true" if k in g.unbuilt else "false") for k in g.kinds]
     return f"""// {NOTE}
 ghost use Rattle.std.specs.Prelude.{{◌≡◌}};
-ghost use Rattle.oxt_erase.specs.UnbuiltKinds.{{is_unbuilt_kind}};
+ghost use Rattle.oxt_unbuilt.specs.UnbuiltKinds.{{is_unbuilt_kind}};
 
 use oxt_table::kind::Kind;
 
@@ -739,8 +739,8 @@ def main():
         "crates/oxt_view/src/lib.rt": view_source(g),
         "crates/oxt_view/proofs/ViewRows.antt": view_rows(g),
         "docs/GRAMMAR.md": grammar_doc(g),
-        "crates/oxt_erase/src/unbuilt_kinds.rt": unbuilt_source(g),
-        "crates/oxt_erase/specs/UnbuiltKinds.antt": unbuilt_spec(g),
+        "crates/oxt_unbuilt/src/unbuilt_kinds.rt": unbuilt_source(g),
+        "crates/oxt_unbuilt/specs/UnbuiltKinds.antt": unbuilt_spec(g),
         "crates/oxt_declares/src/role_of.rt": roles_source(g),
         "crates/oxt_declares/specs/RoleOf.antt": roles_spec(g),
         "crates/oxt_word/src/rule_of.rt": word_rules_source(g),

@@ -1,15 +1,15 @@
 -- Opening wrappers.
-use Rattle.std.proofs.Common.{◌≡◌, ℕ, Bool, true, false, ◌||◌, cond, refl, ap, sym, ◌∙◌}
+use Rattle.std.proofs.Common.{◌≡◌, ℕ, Bool, true, false, cond, refl, ap, sym, ◌∙◌}
 use Rattle.oxt_annotations.specs.Stripped.{at_defaults, each_stripped, opened, stripped, untyped}
-use Rattle.oxt_table.specs.Places.{kind_in, same_kind}
+use Rattle.oxt_table.specs.Places.{kind_in}
 use Rattle.oxt_table.specs.Rows.{row_of}
 use Rattle.oxt_table.specs.declared.category.Category.TheVariants as category
 use Rattle.oxt_table.specs.declared.kind.Kind.{Kind}
-use Rattle.oxt_table.specs.declared.kind.Kind.TheVariants as kind
 use Rattle.oxt_tree.specs.Doc.{Doc, nil, flag, number, text, list, node, Docs, no_docs, doc}
 use Rattle.oxt_tree.specs.Inner.{inner_expression, inner_or}
 use Rattle.oxt_tree.specs.View.{node_doc}
 use Rattle.oxt_tree.specs.declared.tree.Node.{Node}
+use Rattle.oxt_unbuilt.specs.Dropped.{is_droppable}
 
 -- ---- the innermost node
 
@@ -80,20 +80,15 @@ opened_inner false d here inside = here
 -- ---- what is left of the innermost node
 
 untyped_none : (k : Kind) → untyped k no_docs ≡ no_docs
-untyped_none k = step (same_kind k kind.VariableDeclaration || kind_in category.Transparent k)
+untyped_none k = step (kind_in category.Transparent k)
   where
-    step : (u : Bool) → cond u no_docs (at_defaults no_docs (row_of k)) ≡ no_docs
+    step : (u : Bool) → cond u no_docs (at_defaults (is_droppable k) no_docs (row_of k)) ≡ no_docs
     step true = refl
     step false = refl
 
 -- the fields of a transparent node are left alone
 pub untouched : (k : Kind) (ds : Docs) → kind_in category.Transparent k ≡ true → untyped k ds ≡ ds
-untouched k ds h = step (same_kind k kind.VariableDeclaration) (kind_in category.Transparent k) h
-  where
-    step : (v t : Bool) → t ≡ true → cond (v || t) ds (at_defaults ds (row_of k)) ≡ ds
-    step true t is = refl
-    step false true is = refl
-    step false false is = cc
+untouched k ds h = ap (λ t. cond t ds (at_defaults (is_droppable k) ds (row_of k))) h
 
 -- what is left of a node is a node
 pub stripped_inner : (k : Kind) (i b e : ℕ) (ds : Docs) → IsInner (stripped (node k i b e ds))

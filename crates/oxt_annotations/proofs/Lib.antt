@@ -1,6 +1,5 @@
 pub mod Defaults
 pub mod Dropped
-pub mod Erasing
 pub mod Insides
 pub mod Plain
 pub mod Trees

@@ -5,7 +5,7 @@ use Rattle.oxt_annotations.specs.Laws.{all_javascript, each_javascript, fields_j
 use Rattle.oxt_annotations.specs.Stripped.{stripped}
 use Rattle.oxt_annotations.proofs.Plain.{plain_stays}
 use Rattle.oxt_annotations.proofs.Truth.{both_true, true_both}
-use Rattle.oxt_erase.specs.Erased.{is_language}
+use Rattle.oxt_unbuilt.specs.Unbuilt.{is_language}
 use Rattle.oxt_table.specs.Categories.{kinds_in}
 use Rattle.oxt_table.specs.Context.{setting_of}
 use Rattle.oxt_table.specs.Field.{Field}
@@ -187,3 +187,9 @@ tree_javascript (node k i b e ds) tree js =
 -- a plain tree of JavaScript
 pub tree_stays : (d : Doc) → is_tree d ≡ true → is_plain d ≡ true → is_text (codes "js") (field_of (codes "lang") d) ≡ true → stripped d ≡ d
 tree_stays d tree plain js = plain_stays d plain (tree_javascript d tree js)
+
+-- a plain tree of JavaScript of which the same is left as of a source
+pub output_stripped : (source output : Doc) → stripped output ≡ stripped source → is_tree output ≡ true → is_plain output ≡ true → is_text (codes "js") (field_of (codes "lang") output) ≡ true → output ≡ stripped source
+output_stripped source output left tree plain js =
+    let stays : stripped output ≡ output = tree_stays output tree plain js in
+    sym stays ∙ left

@@ -1,7 +1,7 @@
 -- What the definitions of a document without types have to do with one another.
 use Rattle.std.specs.Prelude.{◌≡◌, List, [], ◌∷◌, Bool, true, not, ◌&&◌, ◌||◌, codes}
 use Rattle.oxt_annotations.specs.Stripped.{stripped}
-use Rattle.oxt_erase.specs.Erased.{erased, is_language}
+use Rattle.oxt_unbuilt.specs.Unbuilt.{is_language}
 use Rattle.oxt_table.specs.Field.{Field}
 use Rattle.oxt_table.specs.Rows.{row_of}
 use Rattle.oxt_tree.specs.Doc.{Doc, nil, flag, number, text, list, node, Docs, no_docs, doc}
@@ -37,11 +37,7 @@ PlainStays = (d : Doc) → is_plain d ≡ true → all_javascript d ≡ true →
 abbrev pub TreeStays : Type 0
 TreeStays = (d : Doc) → is_tree d ≡ true → is_plain d ≡ true → is_text (codes "js") (field_of (codes "lang") d) ≡ true → stripped d ≡ d
 
--- A tree of the grammar that is plain without its types is then what erasing makes of it.
-abbrev pub TreeErased : Type 0
-TreeErased = (d : Doc) → is_tree d ≡ true → is_plain (stripped d) ≡ true → stripped d ≡ erased d
-
 -- A tree of the grammar, plain and of JavaScript, of which the same is left without types as of a source
--- is what erasing makes of the source.
-abbrev pub OutputErased : Type 0
-OutputErased = (source output : Doc) → stripped output ≡ stripped source → is_tree source ≡ true → is_tree output ≡ true → is_plain output ≡ true → is_text (codes "js") (field_of (codes "lang") output) ≡ true → output ≡ erased source
+-- is the source without its types.
+abbrev pub OutputStripped : Type 0
+OutputStripped = (source output : Doc) → stripped output ≡ stripped source → is_tree output ≡ true → is_plain output ≡ true → is_text (codes "js") (field_of (codes "lang") output) ≡ true → output ≡ stripped source

@@ -1,43 +1,55 @@
 -- What is left of a document without its types.
-use Rattle.std.specs.Prelude.{List, [], ◌∷◌, Bool, ◌||◌, if◌then◌else◌}
-use Rattle.oxt_erase.specs.Erased.{cleared}
-use Rattle.oxt_table.specs.Field.{Field}
-use Rattle.oxt_table.specs.Places.{kind_in, same_kind}
+use Rattle.std.specs.Prelude.{ℕ, List, [], ◌∷◌, Bool, ◌&&◌, if◌then◌else◌, codes}
+use Rattle.std.specs.List.{list_any}
+use Rattle.std.specs.Str.{bytes_eq}
+use Rattle.oxt_unbuilt.specs.Unbuilt.{is_language}
+use Rattle.oxt_table.specs.Field.{Field, is_typescript_field}
+use Rattle.oxt_table.specs.Places.{kind_in}
 use Rattle.oxt_table.specs.Rows.{row_of}
 use Rattle.oxt_table.specs.declared.category.Category.TheVariants as category
 use Rattle.oxt_table.specs.declared.kind.Kind.{Kind}
-use Rattle.oxt_table.specs.declared.kind.Kind.TheVariants as kind
 use Rattle.oxt_tree.specs.Doc.{Doc, nil, flag, number, text, list, node, Docs, no_docs, doc}
-use Rattle.oxt_tree.specs.Fields.{is_in}
+use Rattle.oxt_tree.specs.Fields.{default_of, is_in}
 use Rattle.oxt_tree.specs.Inner.{inner_expression}
-use Rattle.oxt_tree.specs.Syntax.{is_mere_declaration}
+use Rattle.oxt_unbuilt.specs.Dropped.{is_droppable, is_dropped}
 
 -- in the place of a wrapper the innermost node in it, through wrappers and parentheses
 abbrev pub opened : Doc → Doc
 opened d = if is_in category.Wrapper d then inner_expression d else d
 
--- The fields of such a node are left alone: a wrapper goes as a whole, and variables that are only
--- declared go with the statement, by which their list knows them.
-abbrev pub is_untouched : Kind → Bool
-is_untouched k = same_kind k kind.VariableDeclaration || kind_in category.Transparent k
+-- the fields by which a list knows what it drops
+abbrev pub marks : List (List ℕ)
+marks = codes "declare" ∷ codes "importKind" ∷ codes "exportKind" ∷ codes "value" ∷ []
+
+abbrev pub is_mark : List ℕ → Bool
+is_mark name = list_any (bytes_eq name) marks
+
+-- what a field holds in place of `d`: its default where only TypeScript has it, JavaScript where it names the
+-- language; a mark is left, where a list may drop the node by it
+abbrev pub cleared : Bool → Field → Doc → Doc
+cleared droppable r d =
+    if droppable && is_mark r.name then d
+    else if is_typescript_field r.presence then default_of r.holds
+    else if is_language r.holds then text (codes "js")
+    else d
 
 -- the fields of these rows that only TypeScript has at their defaults, and the language JavaScript
-abbrev pub at_defaults : Docs → List Field → Docs
-at_defaults no_docs rs = no_docs
-at_defaults (doc d ds) [] = doc d ds
-at_defaults (doc d ds) (r ∷ rs) = doc (cleared r d) (at_defaults ds rs)
+abbrev pub at_defaults : Bool → Docs → List Field → Docs
+at_defaults droppable no_docs rs = no_docs
+at_defaults droppable (doc d ds) [] = doc d ds
+at_defaults droppable (doc d ds) (r ∷ rs) = doc (cleared droppable r d) (at_defaults droppable ds rs)
 
--- the fields of a node of that kind without types
+-- the fields of a node of that kind without types; a wrapper goes as a whole
 abbrev pub untyped : Kind → Docs → Docs
-untyped k ds = if is_untouched k then ds else at_defaults ds (row_of k)
+untyped k ds = if kind_in category.Transparent k then ds else at_defaults (is_droppable k) ds (row_of k)
 
--- the elements of a list but for statements that only declare
+-- the elements of a list but for declarations and class elements that stand for nothing at run time
 abbrev pub undeclared : Docs → Docs
 undeclared no_docs = no_docs
-undeclared (doc d ds) = if is_mere_declaration d then undeclared ds else doc d (undeclared ds)
+undeclared (doc d ds) = if is_dropped d then undeclared ds else doc d (undeclared ds)
 
 -- The document without its types: what is in it without types, then its fields at their defaults, its
--- elements without mere declarations, and the wrapper that it is opened.
+-- elements without what stands for nothing, and the wrapper that it is opened.
 abbrev mutual
   pub stripped : Doc → Doc
   stripped nil = nil

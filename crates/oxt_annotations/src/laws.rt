@@ -1,5 +1,5 @@
 //! What the definitions have to do with one another: laws, each the contract of a call that does nothing.
-ghost use Rattle.oxt_annotations.specs.Laws.{OutputErased, PlainStays, TreeErased, TreeStays};
+ghost use Rattle.oxt_annotations.specs.Laws.{OutputStripped, PlainStays, TreeStays};
 
 /// A plain document of JavaScript is as it is without its types.
 pub fn plain_stays()
@@ -11,13 +11,8 @@ pub fn tree_stays()
     ensures { TreeStays }
 {}
 
-/// A tree of the grammar that is plain without its types is then what erasing makes of it.
-pub fn tree_is_erased()
-    ensures { TreeErased }
-{}
-
 /// A tree of the grammar, plain and of JavaScript, of which the same is left without types as of a
-/// source is what erasing makes of the source.
-pub fn output_is_erased()
-    ensures { OutputErased }
+/// source is the source without its types.
+pub fn output_is_stripped()
+    ensures { OutputStripped }
 {}

@@ -7,7 +7,7 @@ ghost use Rattle.oxt_walk.specs.Idle.{IsIdle};
 
 use crate::fields::clear_types;
 use crate::opening::open_wrapper;
-use crate::statements::drop_declarations;
+use crate::statements::{drop_elements, drop_erased};
 use oxt_ctx::context::TraverseCtx;
 use oxt_traverse::hook::Hook;
 use oxt_traverse::traverse::Traverse;
@@ -32,8 +32,8 @@ pub fn erase_annotations(program: &mut Node, ctx: &mut TraverseCtx) -> Result<()
     walk_program(&mut TypeScriptAnnotations::new(), program, ctx)
 }
 
-/// The pass that erases what stands for nothing at run time: statements that only declare, fields
-/// that only TypeScript has, and the wrappers around expressions. What is left of a tree without
+/// The pass that erases what stands for nothing at run time: declarations and class elements of
+/// TypeScript alone, fields that only TypeScript has, and the wrappers around expressions. What is left of a tree without
 /// its types, it keeps. It puts nothing aside.
 #[derive(Clone, Copy, Debug)]
 pub struct TypeScriptAnnotations;
@@ -87,7 +87,7 @@ impl Traverse for TypeScriptAnnotations {
         statements: &mut Vec<Part>,
         _ctx: &mut TraverseCtx,
     ) -> Result<(), OutOfMemory> {
-        drop_declarations(statements);
+        drop_erased(statements);
         Ok(())
     }
 
@@ -129,6 +129,7 @@ impl Traverse for TypeScriptAnnotations {
 
     fn enter_class(&mut self, node: &mut Node, _ctx: &mut TraverseCtx) -> Result<(), OutOfMemory> {
         clear_types(node);
+        drop_elements(node);
         Ok(())
     }
 

@@ -3,7 +3,7 @@ use Rattle.std.specs.Prelude.{◌≡◌, Option, None, Some, option_map, ⊤}
 use Rattle.oxt_check.specs.Refusals.{Refusal, json, shape, unbuilt_form, uncertified, difference_in}
 use Rattle.oxt_check.specs.declared.fault.Fault.{Fault}
 use Rattle.oxt_check.specs.declared.fault.Fault.TheVariants as fault
-use Rattle.oxt_erase.specs.Unbuilt.{unbuilt}
+use Rattle.oxt_unbuilt.specs.Unbuilt.{unbuilt}
 use Rattle.oxt_tree.specs.Doc.{Doc}
 use Rattle.oxt_tree.specs.Names.{name_bytes}
 

@@ -5,11 +5,11 @@ ghost use Rattle.oxt_plan.specs.Facts.{no_facts};
 ghost use Rattle.oxt_tree.specs.View.{node_doc};
 
 use crate::fault::Fault;
-use oxt_erase::unbuilt::first_unbuilt;
 use oxt_options::TransformOptions;
 use oxt_plan::plan::Plan;
 use oxt_scoping::scoping::Scoping;
 use oxt_tree::tree::Program;
+use oxt_unbuilt::unbuilt::first_unbuilt;
 use std::alloc::Global;
 
 /// What the passes ask of the nodes of a program, whose table of scopes and symbols is `scoping`.

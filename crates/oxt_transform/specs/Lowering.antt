@@ -1,7 +1,7 @@
 -- What lowering the bytes of a tree gives.
-use Rattle.std.specs.Prelude.{◌≡◌, ℕ, List, Bool, true, false, None, ⊤}
-use Rattle.oxt_erase.specs.Erased.{erased}
-use Rattle.oxt_erase.specs.Unbuilt.{unbuilt}
+use Rattle.std.specs.Prelude.{◌≡◌, ℕ, List, true, None}
+use Rattle.oxt_annotations.specs.Stripped.{stripped}
+use Rattle.oxt_check.specs.Faults.{first_fault}
 use Rattle.oxt_json.specs.Spelling.{reading, tree}
 use Rattle.oxt_json_write.specs.Spelled.{text_of}
 use Rattle.oxt_tree.specs.Doc.{Doc}
@@ -19,20 +19,15 @@ pub record Lowers (bytes text : List ℕ) : Type 0 where
   pub next : ℕ
   pub output : Doc
   pub spelled : reading bytes ≡ tree source next
-  pub erases : output ≡ erased source
+  pub erases : output ≡ stripped source
   pub valid : is_tree output ≡ true
   pub plain : is_plain output ≡ true
   pub settings : wrong_setting (is_script source) output ≡ None
   pub same_word : word (of_output (names_of source) output) output ≡ word of_source source
   pub written : text ≡ text_of output
 
--- The source has no unbuilt form, and the output is what erasing makes of it and passes its test.
+-- The source has no fault, and the output is what it is without its types and passes its test.
 pub record Passes (source output : Doc) : Type 0 where
-  pub built : unbuilt source ≡ None
-  pub erases : output ≡ erased source
+  pub faultless : first_fault source ≡ None
+  pub erases : output ≡ stripped source
   pub judged : Judges (word of_source source) (names_of source) (is_script source) output None
-
--- a fact where the test is passed
-abbrev pub OnPass : Bool → Type 0 → Type 0
-OnPass true P = P
-OnPass false P = ⊤

@@ -1,10 +1,11 @@
 -- What a run answers, and what that says of the words, the source and the sinks.
-use Rattle.std.specs.Prelude.{◌≡◌, ◌≤◌, ℕ, List, [], ◌∷◌, ◌++◌, length, Option, None, Some, codes, ⊤}
+use Rattle.std.specs.Prelude.{◌≡◌, ◌≤◌, ℕ, Bool, true, false, List, [], ◌∷◌, ◌++◌, length, Option, None, Some, codes, ⊤}
 use Rattle.std.specs.Io.KnownBytes.{Appends}
 use Rattle.oxt_io.specs.Counts.{Rose}
 use Rattle.oxt_io.specs.Passed.{GaveAll, AppendsPrefix}
 use Rattle.oxt_transform.specs.Lowering.{Lowers}
-use Rattle.oxt_transform.specs.Refusals.{Refusal, Refuses, Accepts, line_of}
+use Rattle.oxt_transform.specs.Faults.{refusal_in}
+use Rattle.oxt_transform.specs.Refusals.{Refusal, uncertified, Refuses, Accepts, line_of}
 use Rattle.oxt_io.specs.declared.outcome.InputFault.{InputFault}
 use Rattle.oxt_io.specs.declared.outcome.InputFault.TheVariants as input
 use Rattle.oxt_check.specs.declared.fault.Fault.{Fault}
@@ -75,11 +76,17 @@ UnlessUsage Usage P = ⊤
 UnlessUsage WriteFault P = ⊤
 UnlessUsage _ P = P
 
--- the tree was lowered, or memory ran out
-abbrev pub IsDoneOrMemory : Outcome → Type 0
-IsDoneOrMemory Done = ⊤
-IsDoneOrMemory Memory = ⊤
-IsDoneOrMemory _ = ⊥
+-- the lowered tree failed its test
+abbrev pub is_uncertified : Option Refusal → Bool
+is_uncertified (Some (uncertified difference)) = true
+is_uncertified r = false
+
+-- the tree was lowered, or was not certified, or memory ran out
+abbrev pub IsDoneUncertifiedOrMemory : Outcome → Type 0
+IsDoneUncertifiedOrMemory Done = ⊤
+IsDoneUncertifiedOrMemory (Refused f) = is_uncertified (refusal_in f) ≡ true
+IsDoneUncertifiedOrMemory Memory = ⊤
+IsDoneUncertifiedOrMemory _ = ⊥
 
 abbrev pub OnMemory : Outcome → Type 0 → Type 0
 OnMemory Memory P = P
@@ -175,7 +182,7 @@ pub record UsageCut (taken taken' message message' : Option (List ℕ)) : Type 0
   pub prefix : AppendsPrefix message message' usage_line
   pub quiet : taken' ≡ taken
 
--- No word is given, the source tells its bytes, which are few enough and not refused, and nothing failed.
+-- No word is given, the source tells its bytes, which are few enough and spell a tree without faults, and nothing failed.
 pub record NothingStands (words : List Name) (left : Option (List ℕ)) (read read' wrote wrote' told told' : ℕ) : Type 0 where
   pub no_word : words ≡ []
   pub bytes : List ℕ

@@ -1,8 +1,9 @@
 -- Why bytes are refused.
 pub use Rattle.oxt_check.specs.Refusals.{Difference, misfit_at, typescript_at, setting_at, item_at, difference_in, Refusal, json, shape, unbuilt_form, uncertified, line_of}
-use Rattle.std.specs.Prelude.{ℕ, ◌≡◌, List, [], Bool, true, Option, None, Some}
-use Rattle.oxt_erase.specs.Erased.{erased}
-use Rattle.oxt_erase.specs.Unbuilt.{unbuilt}
+use Rattle.std.specs.Prelude.{ℕ, ◌≡◌, List, [], Bool, true, Option, None, Some, ⊤}
+use Rattle.oxt_annotations.specs.Stripped.{stripped}
+use Rattle.oxt_check.specs.Faults.{first_fault}
+use Rattle.oxt_unbuilt.specs.Unbuilt.{unbuilt}
 use Rattle.oxt_json.specs.Spelling.{no_value, wrong, tree, reading}
 use Rattle.oxt_tree.specs.Doc.{Doc}
 use Rattle.oxt_transform.specs.Settings.{is_script, wrong_setting}
@@ -38,28 +39,42 @@ Judges before names was_script output (Some (item_at i)) =
     × (wrong_setting was_script output ≡ None)
     × IsFirstDifference before (word (of_output names output) output) (Some i)
 
--- The bytes spell a tree, which has a form that is not built yet.
-pub record HasUnbuilt (kind bytes : List ℕ) : Type 0 where
-  pub source : Doc
-  pub next : ℕ
-  pub spelled : reading bytes ≡ tree source next
-  pub form : unbuilt source ≡ Some kind
+-- The source has no fault, but a tree of which the same is left without types fails its test so.
+pub record Fails (difference : Difference) (source : Doc) : Type 0 where
+  pub output : Doc
+  pub faultless : first_fault source ≡ None
+  pub left : stripped output ≡ stripped source
+  pub judged : Judges (word of_source source) (names_of source) (is_script source) output (Some difference)
 
--- The bytes spell a tree of built forms, and the test of the lowered tree says this.
-pub record IsTested (verdict : Option Difference) (bytes : List ℕ) : Type 0 where
+-- a source tree is not lowered for this reason
+abbrev pub Hinders : Refusal → Doc → Type 0
+Hinders json source = ⊥
+Hinders (shape place) source = ⊥
+Hinders (unbuilt_form kind) source = unbuilt source ≡ Some kind
+Hinders (uncertified difference) source = Fails difference source
+
+-- a source tree is not lowered for this reason; for want of memory, nothing is said
+abbrev pub IsHindrance : Option Refusal → Doc → Type 0
+IsHindrance None source = ⊤
+IsHindrance (Some r) source = Hinders r source
+
+-- The bytes spell a tree that is not lowered for this reason.
+pub record IsHindered (r : Refusal) (bytes : List ℕ) : Type 0 where
   pub source : Doc
   pub next : ℕ
   pub spelled : reading bytes ≡ tree source next
-  pub built : unbuilt source ≡ None
-  pub judged : Judges (word of_source source) (names_of source) (is_script source) (erased source) verdict
+  pub cause : Hinders r source
 
 -- the bytes are refused for this reason
 abbrev pub Refuses : Refusal → List ℕ → Type 0
 Refuses json bytes = reading bytes ≡ no_value
 Refuses (shape place) bytes = reading bytes ≡ wrong place
-Refuses (unbuilt_form kind) bytes = HasUnbuilt kind bytes
-Refuses (uncertified difference) bytes = IsTested (Some difference) bytes
+Refuses (unbuilt_form kind) bytes = IsHindered (unbuilt_form kind) bytes
+Refuses (uncertified difference) bytes = IsHindered (uncertified difference) bytes
 
--- The bytes are refused for no reason.
-abbrev pub Accepts : List ℕ → Type 0
-Accepts bytes = IsTested None bytes
+-- The bytes spell a tree that has no fault.
+pub record Accepts (bytes : List ℕ) : Type 0 where
+  pub source : Doc
+  pub next : ℕ
+  pub spelled : reading bytes ≡ tree source next
+  pub faultless : first_fault source ≡ None

@@ -2,7 +2,6 @@
 #![tactic(auto)]
 
 pub mod certificate;
-mod erasing;
 pub mod fault;
 pub mod program;
 pub mod transform;
@@ -16,6 +15,7 @@ pub use oxt_io::{
 pub use oxt_options::{DecoratorOptions, Module, RewriteExtensionsMode, TypeScriptOptions};
 pub use oxt_tree::ids::OutOfMemory;
 pub use oxt_tree::name::Name;
+pub use oxt_typescript::typescript::TypeScript;
 pub use program::{Outcome, run};
 pub use transform::{TransformOptions, TransformerReturn, transform_text};
 

@@ -5,7 +5,7 @@ ghost use Rattle.oxt_io.specs.Counts.{Rose};
 ghost use Rattle.oxt_io.specs.Passed.{GavePast};
 ghost use Rattle.oxt_transform.specs.Faults.{refusal_in, IsReasonFor};
 ghost use Rattle.oxt_transform.specs.Lowering.{Lowers};
-ghost use Rattle.oxt_transform.specs.Outcomes.{limit, usage_line, status_of, OnDone, IfRefused, OnUsage, OnReadFault, OnWriteFault, OnTooLong, OnNoAnswer, OnNoMessage, UnlessUsage, IsDoneOrMemory, Answered, RefusedFor, CutOff, OnMemory, IsUsageOrWriteFault, IsDoneOrWriteFault, IsRefusedMemoryOrWriteFault, input_outcome, LowersToLine, Reported, ReportCut, AnswerCut, RefusalCut, UsageCut, NothingStands};
+ghost use Rattle.oxt_transform.specs.Outcomes.{limit, usage_line, status_of, OnDone, IfRefused, OnUsage, OnReadFault, OnWriteFault, OnTooLong, OnNoAnswer, OnNoMessage, UnlessUsage, IsDoneUncertifiedOrMemory, Answered, RefusedFor, CutOff, OnMemory, IsUsageOrWriteFault, IsDoneOrWriteFault, IsRefusedMemoryOrWriteFault, input_outcome, LowersToLine, Reported, ReportCut, AnswerCut, RefusalCut, UsageCut, NothingStands};
 ghost use Rattle.oxt_transform.specs.Refusals.{line_of};
 
 use crate::fault::Fault;
@@ -88,10 +88,10 @@ pub fn run<S: Source, O: Sink, E: Sink>(
         (E.taken err.old) (E.taken err.new)
         ⊎ UsageCut (O.taken out.old) (O.taken out.new) (E.taken err.old) (E.taken err.new))) }
 
-    // Where nothing stands in the way, the tree is lowered, or memory runs out.
+    // Where nothing stands in the way, the tree is lowered, or fails its test, or memory runs out.
     ensures completes { NothingStands words.now (S.left source.old)
         (S.faults source.old) (S.faults source.new) (O.faults out.old) (O.faults out.new)
-        (E.faults err.old) (E.faults err.new) → IsDoneOrMemory result }
+        (E.faults err.old) (E.faults err.new) → IsDoneUncertifiedOrMemory result }
 
     // Nothing else is written.
     ensures quiet_out { OnNoAnswer result (O.taken out.new ≡ O.taken out.old) }

@@ -34,7 +34,7 @@ fn the_walk_lowers_by_itself(rt: HostRuntime) -> Result<(), Fail> {
         Err(_) => return Err("no tree".into()),
     };
     match lower_by_walk(alloc, &mut program, &options) {
-        Ok(true) => Ok(()),
+        Ok(()) => Ok(()),
         _ => Err("the tree of the walk does not pass".into()),
     }
 }

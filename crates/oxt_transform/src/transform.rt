@@ -4,7 +4,6 @@ ghost use Rattle.oxt_transform.specs.Faults.{refusal_in, IsReasonFor, text_in};
 ghost use Rattle.oxt_transform.specs.Lowering.{Lowers};
 ghost use Rattle.oxt_transform.specs.Refusals.{Accepts};
 
-use crate::erasing::transform_by_erasing;
 use crate::fault::{Fault, fault_of_reading};
 use crate::walking::lower_by_walk;
 use oxt_json::read_tree;
@@ -36,8 +35,7 @@ impl TransformerReturn {
 
 /// Lowers the tree that the bytes spell to plain JavaScript.
 ///
-/// The passes lower it in one walk, and what comes out is tested before it is written. A tree of the
-/// walk that fails its test is thrown away, and the types of the source are erased without a walk.
+/// The passes lower it in one walk, and what comes out is tested before it is written.
 ///
 /// No field of the options acts yet: every tree is lowered as under the defaults.
 ///
@@ -57,13 +55,7 @@ pub fn transform_text(
         Ok(program) => program,
         Err(fault) => return Err(fault_of_reading(fault)),
     };
-    let passes = match lower_by_walk(alloc, &mut program, options) {
-        Ok(passes) => passes,
-        Err(fault) => return Err(fault),
-    };
-    if !passes {
-        return transform_by_erasing(alloc, text);
-    }
+    lower_by_walk(alloc, &mut program, options)?;
     let bytes = write_tree(alloc, &program)?;
     Ok(TransformerReturn { bytes })
 }

@@ -1,68 +1,48 @@
 //! A tree lowered by the passes, in one walk.
-ghost use Rattle.std.specs.Prelude.{◌≡◌, IfOk, IfErr, None, OnOk};
+ghost use Rattle.std.specs.Prelude.{◌≡◌, IfErr, None, OnOk};
 ghost use Rattle.oxt_annotations.specs.Stripped.{stripped};
 ghost use Rattle.oxt_check.specs.Faults.{IsFaultOf, first_fault, refusal_in};
-ghost use Rattle.oxt_item.specs.Entry.{entries};
-ghost use Rattle.oxt_transform.specs.Lowering.{OnPass, Passes};
-ghost use Rattle.oxt_transform.specs.Refusals.{Judges};
+ghost use Rattle.oxt_transform.specs.Lowering.{Passes};
+ghost use Rattle.oxt_transform.specs.Refusals.{IsHindrance};
 ghost use Rattle.oxt_tree.specs.View.{node_doc};
 
 use crate::certificate::{find_mismatch, is_script, source_word};
 use crate::fault::Fault;
-use oxt_annotations::pass::erase_annotations;
 use oxt_check::check;
 use oxt_ctx::context::TraverseCtx;
-use oxt_item::item::Item;
 use oxt_options::TransformOptions;
 use oxt_options::state::TransformState;
 use oxt_plan::plan::Plan;
 use oxt_resolve::resolve::resolve;
 use oxt_scoping::scoping::Scoping;
 use oxt_tree::ids::OutOfMemory;
-use oxt_tree::tree::{Node, Program};
+use oxt_tree::tree::Program;
+use oxt_typescript::typescript::lower_program;
 use oxt_uid::uid::UidNames;
-use oxt_valid::fits::is_tree;
 use std::alloc::Global;
 
-/// Lowers the program, and says whether it then is what erasing makes of it and passes its test.
+/// Lowers the program to what it is without types, and tests that it is a plain tree of the source's
+/// effect word.
 ///
 /// # Errors
 ///
-/// The first form that is not built yet; nothing else but want of memory.
+/// The first form that is not built yet, or how the tree that the passes made fails its test; nothing
+/// else but want of memory.
 pub(crate) fn lower_by_walk(
     alloc: Global,
     program: &mut Program,
     options: &TransformOptions,
-) -> Result<bool, Fault>
-    ensures passes { IfOk result (λ passes. OnPass passes (Passes (node_doc program.old.root) (node_doc program.new.root))) }
-    ensures refused { IfErr result (λ f. IsFaultOf (refusal_in f) (node_doc program.old.root)) }
+) -> Result<(), Fault>
+    ensures passes { OnOk result (Passes (node_doc program.old.root) (node_doc program.new.root)) }
+    ensures refused { IfErr result (λ f. IsHindrance (refusal_in f) (node_doc program.old.root)) }
 {
     let names = UidNames::of_tree(alloc, &program.root)?;
     let before = source_word(alloc, &program.root)?;
     let was_script = is_script(&program.root);
-    let was_tree = is_tree(&program.root);
     walk(alloc, program, options)?;
-    if !was_tree {
-        return Ok(false);
-    }
-    let passes = is_certified(alloc, before.as_slice(), &names, was_script, &program.root)?;
-    Ok(passes)
-}
-
-/// Whether the tree passes its test.
-fn is_certified(
-    alloc: Global,
-    before: &[Item],
-    names: &UidNames,
-    was_script: bool,
-    output: &Node,
-) -> Result<bool, OutOfMemory>
-    ensures { IfOk result (λ passes. OnPass passes
-        (Judges (entries before.now) names.now was_script (node_doc output.now) None)) }
-{
-    match find_mismatch(alloc, before, names, was_script, output)? {
-        Some(_) => Ok(false),
-        None => Ok(true),
+    match find_mismatch(alloc, before.as_slice(), &names, was_script, &program.root)? {
+        Some(mismatch) => Err(Fault::Uncertified { mismatch }),
+        None => Ok(()),
     }
 }
 
@@ -94,7 +74,7 @@ fn run_passes(
     let is_definition = program.root.holds_text("lang", "dts");
     let state = TransformState::new(options, is_definition);
     let mut ctx = TraverseCtx::new(alloc, scoping, plan, state, program.ids);
-    let walked = erase_annotations(&mut program.root, &mut ctx);
+    let walked = lower_program(&mut program.root, &mut ctx);
     program.ids = ctx.ids;
     leave(ctx);
     walked

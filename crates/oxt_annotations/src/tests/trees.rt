@@ -75,29 +75,12 @@ pub fn named(alloc: Global, kind: Kind, name: &str) -> Made {
     around(alloc, kind, Part::Text(Name::new(alloc, name)?))
 }
 
-/// `NAME;`
-pub fn statement(alloc: Global, name: &str) -> Made {
-    let value = named(alloc, Kind::IdentifierReference, name)?;
-    around(alloc, Kind::ExpressionStatement, value)
-}
-
 /// `: any`.
 pub fn annotation(alloc: Global) -> Made {
     around(
         alloc,
         Kind::TSTypeAnnotation,
         node(Kind::TSAnyKeyword, Vec::new(alloc)),
-    )
-}
-
-/// `<T>`.
-pub fn type_parameters(alloc: Global) -> Made {
-    let name = named(alloc, Kind::BindingIdentifier, "T")?;
-    let parameter = around(alloc, Kind::TSTypeParameter, name)?;
-    around(
-        alloc,
-        Kind::TSTypeParameterDeclaration,
-        list(alloc, parameter)?,
     )
 }
 
@@ -130,53 +113,6 @@ pub fn interface(alloc: Global) -> Made {
         Kind::TSInterfaceDeclaration,
         vec![in alloc; id, Part::Flag(false)]?,
     ))
-}
-
-/// `class C<T> extends (a as any)<..> implements I {}`.
-pub fn class(alloc: Global) -> Made {
-    let body = around(alloc, Kind::ClassBody, Part::List(Vec::new(alloc)))?;
-    let super_class = as_any(alloc, named(alloc, Kind::IdentifierReference, "a")?)?;
-    let arguments = node(Kind::TSTypeParameterInstantiation, Vec::new(alloc));
-    let implemented = node(Kind::TSClassImplements, Vec::new(alloc));
-    let parts = vec![in alloc;
-        Part::List(Vec::new(alloc)),
-        named(alloc, Kind::BindingIdentifier, "C")?,
-        type_parameters(alloc)?,
-        super_class,
-        arguments,
-        list(alloc, implemented)?,
-        Part::Flag(true),
-        Part::Flag(false),
-        body,
-    ]?;
-    Ok(node(Kind::ClassDeclaration, parts))
-}
-
-/// `<T>(x?: any): any => (a as any);`
-pub fn arrow(alloc: Global) -> Made {
-    let pattern = named(alloc, Kind::BindingIdentifier, "x")?;
-    let parameter = vec![in alloc;
-        Part::List(Vec::new(alloc)),
-        Part::Nothing,
-        Part::Flag(false),
-        Part::Flag(false),
-        Part::Flag(true),
-        pattern,
-        annotation(alloc)?,
-        Part::Nothing,
-    ]?;
-    let parameter = node(Kind::FormalParameter, parameter);
-    let parameters = vec![in alloc; list(alloc, parameter)?, Part::Nothing]?;
-    let value = as_any(alloc, named(alloc, Kind::IdentifierReference, "a")?)?;
-    let parts = vec![in alloc;
-        Part::Flag(false),
-        type_parameters(alloc)?,
-        node(Kind::FormalParameters, parameters),
-        annotation(alloc)?,
-        value,
-    ]?;
-    let arrow = node(Kind::ArrowFunctionExpression, parts);
-    around(alloc, Kind::ExpressionStatement, arrow)
 }
 
 /// `((a as any)!.b as any);`, with parentheses around each.

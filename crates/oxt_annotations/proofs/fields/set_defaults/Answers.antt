@@ -9,7 +9,7 @@ loop-i-preserved c = record {
   id = c.loop-i.invariant.id;
   span = c.loop-i.invariant.span;
   len = simp length-set c.loop-i.invariant.len;
-  done = field_more c.loop-i.i c.loop-i.node.parts.items _ c.rows-rows.result.now _ _ _ c.loop-i.invariant.done (omega arith) (omega arith) c.index_mut.ensures.value c.set_default.ensures;
+  done = field_more c.is_droppable-droppable.result c.loop-i.i c.loop-i.node.parts.items _ c.rows-rows.result.now _ _ _ c.loop-i.invariant.done (omega arith) (omega arith) c.index_mut.ensures.value c.set_default.ensures;
 }
 
 pub returns : goal.returns
@@ -17,5 +17,5 @@ returns c = record {
   kind = c.loop-i.invariant.kind;
   id = c.loop-i.invariant.id;
   span = c.loop-i.invariant.span;
-  fields = fields_last c.args.node.now.kind c.rows-rows.result.now c.args.node.now.parts.items c.loop-i.node.parts.items c.loop-i.i c.rows-rows.ensures (omega arith) c.loop-i.invariant.done;
+  fields = fields_last c.is_droppable-droppable.result c.args.node.now.kind c.rows-rows.result.now c.args.node.now.parts.items c.loop-i.node.parts.items c.loop-i.i c.is_droppable-droppable.ensures c.rows-rows.ensures (omega arith) c.loop-i.invariant.done;
 }

@@ -11,5 +11,5 @@ invariant-loop-i l = record {
   id : l.node.id ≡ l.initial.node.id;
   span : l.node.span ≡ l.initial.node.span;
   len : length l.node.parts.items ≡ length l.initial.node.parts.items;
-  done : docs_in l.node.parts.items ≡ front l.i (docs_in l.initial.node.parts.items) (map row_view l.rows);
+  done : docs_in l.node.parts.items ≡ front l.droppable l.i (docs_in l.initial.node.parts.items) (map row_view l.rows);
 }

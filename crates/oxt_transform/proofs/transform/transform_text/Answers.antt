@@ -4,10 +4,10 @@ use Rattle.oxt_transform.proofs.transform.transform_text.Goals as goal
 
 pub returns-clause-lowers : goal.returns-clause-lowers
 returns-clause-lowers c =
-    passes_lowers c.args.text.now (node_doc c.in-Ok.program.root) c.in-Ok.program.ids.next c.in-Ok.ensures.tree c.in-Ok-lower_by_walk.passes c.in_ok-bytes.bytes.items (node_doc c.lower_by_walk.new.program.root)
-    c.if-not-passes.false c.in-Ok-lower_by_walk.ensures.passes c.in_ok-bytes.ensures.text
+    passes_lowers c.args.text.now (node_doc c.in-Ok.program.root) c.in-Ok.program.ids.next c.in-Ok.ensures.tree c.in_ok-bytes.bytes.items (node_doc c.lower_by_walk.new.program.root)
+    c.in_ok-lower_by_walk.ensures.passes c.in_ok-bytes.ensures.text
 
 pub returns-clause-accepted : goal.returns-clause-accepted
 returns-clause-accepted c =
-    passes_accepts c.args.text.now (node_doc c.in-Ok.program.root) c.in-Ok.program.ids.next c.in-Ok.ensures.tree c.in-Ok-lower_by_walk.passes (node_doc c.lower_by_walk.new.program.root)
-    c.if-not-passes.false c.in-Ok-lower_by_walk.ensures.passes
+    passes_accepts c.args.text.now (node_doc c.in-Ok.program.root) c.in-Ok.program.ids.next c.in-Ok.ensures.tree (node_doc c.lower_by_walk.new.program.root)
+    c.in_ok-lower_by_walk.ensures.passes

@@ -1,0 +1,16 @@
+use Rattle.std.proofs.Common.{arith}
+use Rattle.std.proofs.Math.ListN.{length-set}
+use Rattle.oxt_annotations.proofs.Dropped.{each_more, nodes_same}
+use Rattle.oxt_annotations.proofs.statements.drop_elements.Goals as goal
+
+pub loop-i-preserved : goal.loop-i-preserved
+loop-i-preserved c = record {
+  kind = c.loop-i.invariant.kind;
+  id = c.loop-i.invariant.id;
+  span = c.loop-i.invariant.span;
+  len = simp length-set c.loop-i.invariant.len;
+  read = each_more c.loop-i.i c.loop-i.class.parts.items c.args.class.now.parts.items _ _ c.loop-i.invariant.read (omega arith) c.index_mut.ensures.value c.drop_in_body.ensures;
+}
+
+pub returns : goal.returns
+returns c = nodes_same c.loop-i.class c.args.class.now c.loop-i.invariant.kind c.loop-i.invariant.id c.loop-i.invariant.span c.loop-i.invariant.read

@@ -1,0 +1,6 @@
+//! Two passes in one walk.
+#![tactic(auto)]
+
+pub mod both;
+#[cfg(test)]
+mod tests;

@@ -1,3 +1,0 @@
-pub mod Found
-pub mod Fronts
-pub mod Sizes

@@ -1,4 +1,0 @@
-pub mod Erased
-pub mod Forms
-pub mod Unbuilt
-pub mod UnbuiltKinds

@@ -1,0 +1,4 @@
+//! The TypeScript passes, composed.
+#![tactic(auto)]
+
+pub mod typescript;

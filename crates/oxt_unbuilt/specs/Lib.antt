@@ -1,0 +1,4 @@
+pub mod Dropped
+pub mod Forms
+pub mod Unbuilt
+pub mod UnbuiltKinds

@@ -1,0 +1,33 @@
+//! Declarations and class elements that stand for nothing at run time.
+ghost use Rattle.std.specs.Prelude.{◌≡◌};
+ghost use Rattle.oxt_unbuilt.specs.Dropped.{is_droppable, is_dropped};
+ghost use Rattle.oxt_tree.specs.View.{node_doc, part_doc};
+
+use oxt_table::category::Category;
+use oxt_table::kind::Kind;
+use oxt_tree::tree::{Node, Part};
+
+/// Whether the node is a declaration or an element of a class that stands for nothing at run time: by
+/// its kind, by `declare` or `type`, or for want of a body.
+pub fn is_dropped(node: &Node) -> bool
+    ensures { result ≡ is_dropped (node_doc node.now) }
+{
+    is_droppable(node.kind) && node.is_typescript_syntax()
+}
+
+/// Whether the part is such a node.
+pub fn part_is_dropped(part: &Part) -> bool
+    ensures { result ≡ is_dropped (part_doc part.now) }
+{
+    match part {
+        Part::Node(node) => is_dropped(node),
+        _ => false,
+    }
+}
+
+/// Whether nodes of the kind are declarations or elements of classes.
+pub fn is_droppable(kind: Kind) -> bool
+    ensures { result ≡ is_droppable kind }
+{
+    Category::Declaration.contains(kind) || Category::ClassElement.contains(kind)
+}

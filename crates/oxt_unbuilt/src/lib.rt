@@ -1,0 +1,9 @@
+//! Which nodes stand for nothing at run time, and the forms of TypeScript that are not transformed yet.
+#![tactic(auto)]
+
+pub mod dropped;
+pub mod rows;
+#[cfg(test)]
+mod tests;
+pub mod unbuilt;
+mod unbuilt_kinds;

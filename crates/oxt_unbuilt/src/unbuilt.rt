@@ -1,0 +1,225 @@
+//! The forms of TypeScript that are not transformed yet.
+ghost use Rattle.std.specs.Prelude.{◌≡◌, IfOk, map, option_map};
+ghost use Rattle.std.specs.List.{list_any};
+ghost use Rattle.std.specs.Str.{bytes_eq};
+ghost use Rattle.oxt_unbuilt.specs.Unbuilt.{field_form, fields_form, form_among, form_below, form_in, inside, is_decorated, is_lone, is_misplaced, is_parameter_property, is_target, is_wrapped_target, node_form, property_marks, unbuilt};
+ghost use Rattle.oxt_unbuilt.specs.Forms.{form_text};
+ghost use Rattle.oxt_table.specs.Field.{row_view};
+ghost use Rattle.oxt_tree.specs.Names.{name_bytes};
+ghost use Rattle.oxt_tree.specs.View.{docs_in, node_doc, part_doc};
+
+use crate::dropped::is_dropped;
+use crate::rows::is_language;
+use crate::unbuilt_kinds::is_unbuilt;
+use oxt_table::category::Category;
+use oxt_table::holds::{Holds, Row};
+use oxt_table::kind::Kind;
+use oxt_tree::ids::OutOfMemory;
+use oxt_tree::name::Name;
+use oxt_tree::tree::{Node, Part};
+use std::alloc::Global;
+
+/// A form that is not transformed yet.
+#[derive(Clone, Copy, Debug)]
+enum Form {
+    /// A node of that kind.
+    Kind(Kind),
+    /// A whole file of definitions.
+    Definitions,
+}
+
+impl Form {
+    /// The form as messages name it.
+    fn name(self, alloc: Global) -> Result<Name, OutOfMemory>
+        ensures { IfOk result (λ name. name_bytes name ≡ form_text self) }
+    {
+        match self {
+            Form::Kind(kind) => Name::new(alloc, kind.name()),
+            Form::Definitions => Name::new(alloc, "dts"),
+        }
+    }
+}
+
+/// The first form in the tree that is not transformed yet, by its name: that of a node stands before those of
+/// the nodes in it.
+pub fn first_unbuilt(alloc: Global, program: &Node) -> Result<Option<Name>, OutOfMemory>
+    ensures { IfOk result (λ form. option_map name_bytes form ≡ unbuilt (node_doc program.now)) }
+{
+    match form_in_node(program, Holds::Node(Category::Program)) {
+        Some(form) => Ok(Some(form.name(alloc)?)),
+        None => Ok(None),
+    }
+}
+
+/// The first form in a part, where a field holds `holds`.
+#[cycle(find)]
+fn form_in_part(part: &Part, holds: Holds) -> Option<Form>
+    ensures { option_map form_text result ≡ form_in (part_doc part.now) holds }
+{
+    match part {
+        Part::Node(node) => form_in_node(node, holds),
+        Part::List(parts) => form_among(parts.as_slice(), holds),
+        _ => None,
+    }
+}
+
+/// The first form in a node: the node itself, or one in its fields.
+#[cycle(find)]
+fn form_in_node(node: &Node, holds: Holds) -> Option<Form>
+    ensures { option_map form_text result ≡ form_in (node_doc node.now) holds }
+{
+    match form_at(node, holds) {
+        Some(form) => Some(form),
+        None => form_below(node.kind.rows(), node.parts.as_slice()),
+    }
+}
+
+/// The first form in the elements of a list.
+#[tactic(auto, using(crate::proofs::Found::among_more, crate::proofs::Found::among_done))]
+#[cycle(find)]
+fn form_among(parts: &[Part], holds: Holds) -> Option<Form>
+    ensures { option_map form_text result ≡ form_among (docs_in parts.now) holds }
+{
+    for i in 0..parts.len() {
+        if let Some(form) = form_in_part(&parts[i], holds) {
+            return Some(form);
+        }
+    }
+    None
+}
+
+/// The first form in what the fields of a node hold.
+#[tactic(auto, using(crate::proofs::Found::below_more, crate::proofs::Found::below_done))]
+#[cycle(find)]
+fn form_below(rows: &[Row], parts: &[Part]) -> Option<Form>
+    ensures { option_map form_text result ≡ form_below (docs_in parts.now) (map row_view rows.now) }
+{
+    for i in 0..rows.len().min(parts.len()) {
+        if let Some(form) = form_in_part(&parts[i], rows[i].holds) {
+            return Some(form);
+        }
+    }
+    None
+}
+
+/// The form that the node is at its place.
+fn form_at(node: &Node, holds: Holds) -> Option<Form>
+    ensures { option_map form_text result ≡ node_form holds (node_doc node.now) node.now.kind (docs_in node.now.parts.items) }
+{
+    if is_unbuilt(node.kind) || is_misplaced(holds, node) {
+        Some(Form::Kind(node.kind))
+    } else {
+        form_of_fields(node.kind, node.kind.rows(), node.parts.as_slice())
+    }
+}
+
+/// The first form that a field of a node is.
+#[tactic(auto, using(crate::proofs::Found::fields_more, crate::proofs::Found::fields_none))]
+fn form_of_fields(kind: Kind, rows: &[Row], parts: &[Part]) -> Option<Form>
+    ensures { option_map form_text result ≡ fields_form kind (map row_view rows.now) (docs_in parts.now) }
+{
+    for i in 0..rows.len().min(parts.len()) {
+        if let Some(form) = form_of_field(kind, &rows[i], &parts[i]) {
+            return Some(form);
+        }
+    }
+    None
+}
+
+/// The form that a field of a node is.
+fn form_of_field(kind: Kind, row: &Row, part: &Part) -> Option<Form>
+    ensures { option_map form_text result ≡ field_form kind (row_view row.now) (part_doc part.now) }
+{
+    if is_language(row.holds) && part.is_text("dts") {
+        Some(Form::Definitions)
+    } else if is_parameter_property(kind, row, part) {
+        Some(Form::Kind(kind))
+    } else if is_decorated(kind, row, part) {
+        Some(Form::Kind(Kind::Decorator))
+    } else {
+        None
+    }
+}
+
+/// Whether the field has decorators of a parameter.
+fn is_decorated(kind: Kind, row: &Row, part: &Part) -> bool
+    ensures { result ≡ is_decorated kind (row_view row.now) (part_doc part.now) }
+{
+    kind.is(Kind::FormalParameter) && (!part.is_default(row.holds) && row.name == "decorators")
+}
+
+/// Whether the field makes a parameter a property of its class.
+fn is_parameter_property(kind: Kind, row: &Row, part: &Part) -> bool
+    ensures { result ≡ is_parameter_property kind (row_view row.now) (part_doc part.now) }
+{
+    kind.is(Kind::FormalParameter) && (!part.is_default(row.holds) && is_property_mark(row.name))
+}
+
+/// Whether a field of that name does so.
+fn is_property_mark(name: &str) -> bool
+    ensures { result ≡ list_any (bytes_eq name.now) property_marks }
+{
+    match name {
+        "accessibility" | "readonly" | "override" => true,
+        _ => false,
+    }
+}
+
+/// Whether the node is an erased statement in a field of its own, or a wrapper as a target.
+fn is_misplaced(holds: Holds, node: &Node) -> bool
+    ensures { result ≡ is_misplaced holds (node_doc node.now) }
+{
+    match holds {
+        Holds::Node(category) => is_lone(category, node) || is_wrapped_target(category, node),
+        Holds::NodeOrNull(category) => is_lone(category, node) || is_wrapped_target(category, node),
+        Holds::List(category) => is_wrapped_target(category, node),
+        Holds::ListOfNullable(category) => is_wrapped_target(category, node),
+        _ => false,
+    }
+}
+
+/// Whether the node is an erased statement where one statement or the head of a `for` stands.
+fn is_lone(category: Category, node: &Node) -> bool
+    ensures { result ≡ is_lone category (node_doc node.now) }
+{
+    match category {
+        Category::Statement => is_dropped(node),
+        Category::ForStatementInit => is_dropped(node),
+        Category::ForStatementLeft => is_dropped(node),
+        _ => false,
+    }
+}
+
+/// Whether the node is a wrapper where something is assigned, or as the element of a chain, around
+/// something that may not stand there.
+fn is_wrapped_target(category: Category, node: &Node) -> bool
+    ensures { result ≡ is_wrapped_target category (node_doc node.now) }
+{
+    is_target(category)
+        && (Category::Wrapper.contains(node.kind)
+            && !inside(category).contains(node.get_inner_expression().kind))
+}
+
+/// Whether something is assigned there, or it is the element of a chain.
+fn is_target(category: Category) -> bool
+    ensures { result ≡ is_target category }
+{
+    match category {
+        Category::SimpleAssignmentTarget => true,
+        Category::AssignmentTarget => true,
+        Category::AssignmentTargetMaybeDefault => true,
+        Category::ForStatementLeft => true,
+        Category::ChainElement => true,
+        _ => false,
+    }
+}
+
+/// What may stand there in the place of a wrapper.
+fn inside(category: Category) -> Category
+    ensures { result ≡ inside category }
+{
+    match category {
+        Category::ChainElement => Category::ChainElement,
+        _ => Category::SimpleAssignmentTarget,
+    }
+}
