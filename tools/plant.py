@@ -53,13 +53,13 @@ BUGS = [
 def planted(text):
     """The pass with all bugs in it, by number."""
     text = text.replace("pub struct TypeScriptAnnotations;", "pub struct TypeScriptAnnotations { bug: u32 }")
-    text = text.replace("pub fn new() -> TypeScriptAnnotations {\n        TypeScriptAnnotations\n", "pub fn new(bug: u32) -> TypeScriptAnnotations {\n        TypeScriptAnnotations { bug }\n")
-    text = text.replace("walk_program(&mut TypeScriptAnnotations::new(), program, ctx)", "let bug = program.span.start;\n    walk_program(&mut TypeScriptAnnotations::new(bug), program, ctx)")
+    text = text.replace("        TypeScriptAnnotations\n    }", "        TypeScriptAnnotations { bug: 0 }\n    }")
     text = text.replace("use oxt_tree::tree::{Node, Part};", "use oxt_table::word::Word;\nuse oxt_tree::tree::{Node, Part};")
     for number, (hook, wrong) in enumerate(BUGS, 1):
         begin = re.search(rf"fn enter_{hook}\(.*?\{{\n", text, re.S).end()
         text = f"{text[:begin]}        if self.bug == {number} {{ {wrong} return Ok(()); }}\n{text[begin:]}"
-    return text
+    begin = re.search(r"fn enter_program\(.*?\{\n", text, re.S).end()
+    return f"{text[:begin]}        self.bug = node.span.start;\n{text[begin:]}"
 
 
 def answers(tree):
