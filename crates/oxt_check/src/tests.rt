@@ -65,7 +65,7 @@ fn a_program_without_unbuilt_forms_has_an_empty_plan(rt: HostRuntime) -> Result<
 fn the_first_unbuilt_form_is_named(rt: HostRuntime) -> Result<(), Fail> {
     let cases = [
         (Word::Ts, Kind::TSEnumDeclaration, "TSEnumDeclaration"),
-        (Word::Js, Kind::Decorator, "Decorator"),
+        (Word::Js, Kind::ImportDeclaration, "ImportDeclaration"),
         (Word::Dts, Kind::TSEnumDeclaration, "dts"),
     ];
     for (lang, kind, name) in cases {
