@@ -1,13 +1,15 @@
 -- Setting fields to their defaults in their places.
 use Rattle.std.proofs.Common.{◌≡◌, ℕ, zero, suc, ◌+◌, ◌<◌, List, [], ◌∷◌, length, get_or, map, min, Bool, true, false, ◌&&◌, cond, refl, ap, ◌∙◌, add-one, arith}
 use Rattle.std.proofs.Math.ListN.{set}
-use Rattle.oxt_annotations.specs.Stripped.{at_defaults, cleared, each_stripped, is_mark, opened, stripped, untyped}
+use Rattle.oxt_annotations.specs.Stripped.{at_defaults, cleared, each_stripped, housed, is_mark, opened, stripped, untyped}
+use Rattle.oxt_annotations.proofs.Housed.{housed_twice}
 use Rattle.oxt_unbuilt.specs.Dropped.{is_droppable}
 use Rattle.oxt_unbuilt.specs.Unbuilt.{is_language}
 use Rattle.oxt_table.specs.Field.{Field, is_typescript_field, row_view}
 use Rattle.oxt_table.specs.Places.{kind_in}
 use Rattle.oxt_table.specs.Rows.{row_of}
 use Rattle.oxt_table.specs.declared.category.Category.TheVariants as category
+use Rattle.oxt_table.specs.declared.holds.Holds.{Holds}
 use Rattle.oxt_table.specs.declared.holds.Row.{Row}
 use Rattle.oxt_table.specs.declared.kind.Kind.{Kind}
 use Rattle.oxt_tree.specs.Doc.{Doc, node, Docs, no_docs, doc}
@@ -59,17 +61,17 @@ fields_last m k rs ps done n is rows last e =
 
 -- ---- what is left without types
 
-either_twice : (m p q : Bool) (x y d : Doc) → cond m (stripped (cond m d (cond p x (cond q y d)))) (cond p x (cond q y (stripped (cond m d (cond p x (cond q y d)))))) ≡ cond m (stripped d) (cond p x (cond q y (stripped d)))
-either_twice true p q x y d = refl
-either_twice false true q x y d = refl
-either_twice false false true x y d = refl
-either_twice false false false x y d = refl
+either_twice : (m p q : Bool) (x y d : Doc) (h : Holds) → cond m (stripped (cond m d (cond p x (cond q y (housed h d))))) (cond p x (cond q y (housed h (stripped (cond m d (cond p x (cond q y (housed h d)))))))) ≡ cond m (stripped d) (cond p x (cond q y (housed h (stripped d))))
+either_twice true p q x y d h = refl
+either_twice false true q x y d h = refl
+either_twice false false true x y d h = refl
+either_twice false false false x y d h = housed_twice h d
 
 defaults_twice : (m : Bool) (ds : Docs) (rs : List Field) → at_defaults m (each_stripped (at_defaults m ds rs)) rs ≡ at_defaults m (each_stripped ds) rs
 defaults_twice m no_docs rs = refl
 defaults_twice m (doc d ds) [] = refl
 defaults_twice m (doc d ds) (r ∷ rs) =
-    let here : cleared m r (stripped (cleared m r d)) ≡ cleared m r (stripped d) = either_twice (m && is_mark r.name) (is_typescript_field r.presence) (is_language r.holds) _ _ d in
+    let here : cleared m r (stripped (cleared m r d)) ≡ cleared m r (stripped d) = either_twice (m && is_mark r.name) (is_typescript_field r.presence) (is_language r.holds) _ _ d r.holds in
     let rest : at_defaults m (each_stripped (at_defaults m ds rs)) rs ≡ at_defaults m (each_stripped ds) rs = defaults_twice m ds rs in
     cc
 

@@ -3,7 +3,7 @@ use Rattle.std.proofs.Common.{◌≡◌, ℕ, zero, suc, ◌<◌, List, [], ◌�
 use Rattle.std.proofs.Math.ListN.{set}
 use Rattle.std.specs.Cmp.Lexicographic.{bytes_decides}
 use Rattle.std.specs.Str.{bytes_eq}
-use Rattle.oxt_annotations.specs.Stripped.{at_defaults, cleared, each_stripped, is_mark, opened, stripped, undeclared, untyped}
+use Rattle.oxt_annotations.specs.Stripped.{at_defaults, cleared, each_stripped, housed, is_mark, number_of, opened, stripped, undeclared, untyped}
 use Rattle.oxt_annotations.proofs.Truth.{both_true, false_true, true_both}
 use Rattle.oxt_table.specs.Categories.{kinds_in}
 use Rattle.oxt_table.specs.Field.{Field, is_typescript_field}
@@ -29,7 +29,7 @@ use Rattle.oxt_unbuilt.specs.Unbuilt.{is_language}
 marked : (name : List ℕ) (r : Field) (d : Doc) → is_mark name ≡ true → bytes_eq r.name name ≡ true → cleared true r d ≡ d
 marked name r d mark same =
     let is : is_mark r.name ≡ true = ap is_mark ((bytes_decides r.name name).0 same) ∙ mark in
-    ap (λ m. cond m d (cond (is_typescript_field r.presence) (default_of r.holds) (cond (is_language r.holds) (text (codes "js")) d))) is
+    ap (λ m. cond m d (cond (is_typescript_field r.presence) (default_of r.holds) (cond (is_language r.holds) (text (codes "js")) (housed r.holds d)))) is
 
 mark_step : (b : Bool) (c d left later : Doc) → (b ≡ true → c ≡ d) → left ≡ later → cond b c left ≡ cond b d later
 mark_step true c d left later here rest = here refl
@@ -157,6 +157,19 @@ dropped_stripped (node k i b e ds) h =
     let erased : is_erased k (untyped k (each_stripped ds)) ≡ true = ap (is_erased k) fields ∙ (erased_defaults k (each_stripped ds) ∙ erased_stripped k ds both.1) in
     ap is_dropped (unopened (kind_in category.Wrapper k) (inner_expression left) left closed.1)
     ∙ true_both (is_droppable k) (is_erased k (untyped k (each_stripped ds))) both.0 erased
+
+-- what is dropped has its number without its types
+pub same_number : (d : Doc) → is_dropped d ≡ true → number_of (stripped d) ≡ number_of d
+same_number nil h = refl
+same_number (flag b) h = refl
+same_number (number n) h = refl
+same_number (text t) h = refl
+same_number (list ds) h = refl
+same_number (node k i b e ds) h =
+    let left : Doc = node k i b e (untyped k (each_stripped ds)) in
+    let both = both_true (is_droppable k) (is_erased k ds) h in
+    let closed = implied_both (is_droppable k) (kind_in category.Transparent k) (kind_in category.Wrapper k) (droppable_closed k) both.0 in
+    ap number_of (unopened (kind_in category.Wrapper k) (inner_expression left) left closed.1)
 
 drop_step : (b c : Bool) (p : Part) (kept : List Part) (rest : Docs) → (b ≡ true → c ≡ true) → undeclared (each_stripped (docs_in kept)) ≡ rest → c ≡ is_dropped (stripped (part_doc p)) → undeclared (each_stripped (docs_in (cond (not b) (p ∷ kept) kept))) ≡ cond c rest (doc (stripped (part_doc p)) rest)
 drop_step true true p kept rest mere e is = e

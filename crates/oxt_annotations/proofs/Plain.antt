@@ -3,7 +3,7 @@ use Rattle.std.proofs.Common.{◌≡◌, ℕ, List, [], ◌∷◌, Bool, true, f
 use Rattle.std.specs.Cmp.Lexicographic.{bytes_decides}
 use Rattle.std.specs.Str.{bytes_eq}
 use Rattle.oxt_annotations.specs.Laws.{all_javascript, each_javascript, fields_javascript}
-use Rattle.oxt_annotations.specs.Stripped.{at_defaults, cleared, each_stripped, is_mark, opened, stripped, undeclared, untyped}
+use Rattle.oxt_annotations.specs.Stripped.{at_defaults, cleared, each_stripped, housed, houses, in_place, is_mark, opened, stripped, undeclared, untyped}
 use Rattle.oxt_annotations.proofs.Truth.{both_true, false_true, not_true}
 use Rattle.oxt_unbuilt.specs.Dropped.{is_droppable, is_dropped}
 use Rattle.oxt_unbuilt.specs.Unbuilt.{is_language}
@@ -74,22 +74,6 @@ default_is h d is = cc
 text_is : (t : List ℕ) (d : Doc) → is_text t d ≡ true → text t ≡ d
 text_is t (text u) h = ap text (sym ((bytes_decides u t).0 h))
 text_is t d h = cc
-
-cleared_stays : (m t l : Bool) (h : Holds) (d : Doc) → (not t || is_default h d) ≡ true → (not l || is_text (codes "js") d) ≡ true → cond m d (cond t (default_of h) (cond l (text (codes "js")) d)) ≡ d
-cleared_stays true t l h d plain js = refl
-cleared_stays false true l h d plain js = default_is h d plain
-cleared_stays false false true h d plain js = text_is (codes "js") d js
-cleared_stays false false false h d plain js = refl
-
-pub defaults_stay : (m : Bool) (ds : Docs) (rs : List Field) → fields_plain rs ds ≡ true → fields_javascript ds rs ≡ true → at_defaults m ds rs ≡ ds
-defaults_stay m no_docs rs plain js = refl
-defaults_stay m (doc d ds) [] plain js = refl
-defaults_stay m (doc d ds) (r ∷ rs) plain js =
-    let p = both_true (not (is_typescript_field r.presence) || is_default r.holds d) (fields_plain rs ds) plain in
-    let j = both_true (not (is_language r.holds) || is_text (codes "js") d) (fields_javascript ds rs) js in
-    let here : cleared m r d ≡ d = cleared_stays (m && is_mark r.name) (is_typescript_field r.presence) (is_language r.holds) r.holds d p.0 j.0 in
-    let rest : at_defaults m ds rs ≡ ds = defaults_stay m ds rs p.1 j.1 in
-    ap (λ x. doc x (at_defaults m ds rs)) here ∙ ap (doc d) rest
 
 either_stays : (u : Bool) (c d : Docs) → d ≡ c → cond u c d ≡ c
 either_stays true c d h = refl
@@ -202,11 +186,35 @@ elements_stay (doc d ds) h =
     let both = both_true (is_plain d) (all_plain ds) h in
     kept_step (is_dropped d) d ds (undeclared ds) (plain_dropped d both.0) (elements_stay ds both.1)
 
+-- ---- fields of plain nodes
+
+housed_stays : (c m : Bool) (h : Holds) (d : Doc) → m ≡ false → cond (c && m) (in_place h d) d ≡ d
+housed_stays c true h d f = cc
+housed_stays true false h d f = refl
+housed_stays false false h d f = refl
+
+cleared_stays : (m t l : Bool) (h : Holds) (d : Doc) → is_dropped d ≡ false → (not t || is_default h d) ≡ true → (not l || is_text (codes "js") d) ≡ true → cond m d (cond t (default_of h) (cond l (text (codes "js")) (housed h d))) ≡ d
+cleared_stays true t l h d stands plain js = refl
+cleared_stays false true l h d stands plain js = default_is h d plain
+cleared_stays false false true h d stands plain js = text_is (codes "js") d js
+cleared_stays false false false h d stands plain js = housed_stays (houses h) (is_dropped d) h d stands
+
+defaults_stay : (m : Bool) (ds : Docs) (rs : List Field) → all_plain ds ≡ true → fields_plain rs ds ≡ true → fields_javascript ds rs ≡ true → at_defaults m ds rs ≡ ds
+defaults_stay m no_docs rs each plain js = refl
+defaults_stay m (doc d ds) [] each plain js = refl
+defaults_stay m (doc d ds) (r ∷ rs) each plain js =
+    let a = both_true (is_plain d) (all_plain ds) each in
+    let p = both_true (not (is_typescript_field r.presence) || is_default r.holds d) (fields_plain rs ds) plain in
+    let j = both_true (not (is_language r.holds) || is_text (codes "js") d) (fields_javascript ds rs) js in
+    let here : cleared m r d ≡ d = cleared_stays (m && is_mark r.name) (is_typescript_field r.presence) (is_language r.holds) r.holds d (plain_dropped d a.0) p.0 j.0 in
+    let rest : at_defaults m ds rs ≡ ds = defaults_stay m ds rs a.1 p.1 j.1 in
+    ap (λ x. doc x (at_defaults m ds rs)) here ∙ ap (doc d) rest
+
 -- ---- documents
 
-node_stays : (k : Kind) (i b e : ℕ) (ds es : Docs) → is_typescript_kind k ≡ false → fields_plain (row_of k) ds ≡ true → fields_javascript ds (row_of k) ≡ true → es ≡ ds → opened (node k i b e (untyped k es)) ≡ node k i b e ds
-node_stays k i b e ds es other plain js same =
-    let fields : untyped k es ≡ ds = ap (untyped k) same ∙ either_stays (kind_in category.Transparent k) ds (at_defaults (is_droppable k) ds (row_of k)) (defaults_stay (is_droppable k) ds (row_of k) plain js) in
+node_stays : (k : Kind) (i b e : ℕ) (ds es : Docs) → is_typescript_kind k ≡ false → all_plain ds ≡ true → fields_plain (row_of k) ds ≡ true → fields_javascript ds (row_of k) ≡ true → es ≡ ds → opened (node k i b e (untyped k es)) ≡ node k i b e ds
+node_stays k i b e ds es other each plain js same =
+    let fields : untyped k es ≡ ds = ap (untyped k) same ∙ either_stays (kind_in category.Transparent k) ds (at_defaults (is_droppable k) ds (row_of k)) (defaults_stay (is_droppable k) ds (row_of k) each plain js) in
     let whole : Doc = node k i b e (untyped k es) in
     unopened (kind_in category.Wrapper k) (inner_expression whole) whole (not_there (is_typescript_kind k) (kind_in category.Wrapper k) (wrapper_typescript k) other)
     ∙ ap (node k i b e) fields
@@ -222,7 +230,7 @@ mutual
       let all = both_true (not (is_typescript_kind k)) (fields_plain (row_of k) ds && all_plain ds) plain in
       let parts = both_true (fields_plain (row_of k) ds) (all_plain ds) all.1 in
       let speaks = both_true (fields_javascript ds (row_of k)) (each_javascript ds) js in
-      node_stays k i b e ds (each_stripped ds) (not_true (is_typescript_kind k) all.0) parts.0 speaks.0 (each_stays ds parts.1 speaks.1)
+      node_stays k i b e ds (each_stripped ds) (not_true (is_typescript_kind k) all.0) parts.1 parts.0 speaks.0 (each_stays ds parts.1 speaks.1)
 
   each_stays : (ds : Docs) → all_plain ds ≡ true → each_javascript ds ≡ true → each_stripped ds ≡ ds
   each_stays no_docs plain js = refl

@@ -1,5 +1,5 @@
 -- What is left of a document without its types.
-use Rattle.std.specs.Prelude.{ℕ, List, [], ◌∷◌, Bool, ◌&&◌, if◌then◌else◌, codes}
+use Rattle.std.specs.Prelude.{ℕ, List, [], ◌∷◌, Bool, true, false, ◌&&◌, if◌then◌else◌, codes}
 use Rattle.std.specs.List.{list_any}
 use Rattle.std.specs.Str.{bytes_eq}
 use Rattle.oxt_unbuilt.specs.Unbuilt.{is_language}
@@ -7,7 +7,10 @@ use Rattle.oxt_table.specs.Field.{Field, is_typescript_field}
 use Rattle.oxt_table.specs.Places.{kind_in}
 use Rattle.oxt_table.specs.Rows.{row_of}
 use Rattle.oxt_table.specs.declared.category.Category.TheVariants as category
+use Rattle.oxt_table.specs.declared.holds.Holds.{Holds}
+use Rattle.oxt_table.specs.declared.holds.Holds.TheVariants as holds
 use Rattle.oxt_table.specs.declared.kind.Kind.{Kind}
+use Rattle.oxt_table.specs.declared.kind.Kind.TheVariants as kind
 use Rattle.oxt_tree.specs.Doc.{Doc, nil, flag, number, text, list, node, Docs, no_docs, doc}
 use Rattle.oxt_tree.specs.Fields.{default_of, is_in}
 use Rattle.oxt_tree.specs.Inner.{inner_expression}
@@ -24,16 +27,41 @@ marks = codes "declare" ∷ codes "importKind" ∷ codes "exportKind" ∷ codes 
 abbrev pub is_mark : List ℕ → Bool
 is_mark name = list_any (bytes_eq name) marks
 
+-- the number of a node, and 0 for anything else
+abbrev pub number_of : Doc → ℕ
+number_of (node k i b e ds) = i
+number_of d = 0
+
+-- a block without statements
+abbrev pub empty_block : ℕ → Doc
+empty_block n = node kind.BlockStatement n 0 0 (doc (list no_docs) no_docs)
+
+-- one statement stands in the field, and no list of them
+abbrev pub houses : Holds → Bool
+houses (holds.Node category.Statement) = true
+houses (holds.NodeOrNull category.Statement) = true
+houses h = false
+
+-- what stands there for a statement that is erased: an empty block of its number, or nothing where the field
+-- may be null
+abbrev pub in_place : Holds → Doc → Doc
+in_place (holds.Node c) d = empty_block (number_of d)
+in_place h d = nil
+
+abbrev pub housed : Holds → Doc → Doc
+housed h d = if houses h && is_dropped d then in_place h d else d
+
 -- what a field holds in place of `d`: its default where only TypeScript has it, JavaScript where it names the
--- language; a mark is left, where a list may drop the node by it
+-- language, a block for an erased statement; a mark is left, where a list may drop the node by it
 abbrev pub cleared : Bool → Field → Doc → Doc
 cleared droppable r d =
     if droppable && is_mark r.name then d
     else if is_typescript_field r.presence then default_of r.holds
     else if is_language r.holds then text (codes "js")
-    else d
+    else housed r.holds d
 
--- the fields of these rows that only TypeScript has at their defaults, and the language JavaScript
+-- the fields of these rows that only TypeScript has at their defaults, the language JavaScript, and blocks for erased
+-- statements
 abbrev pub at_defaults : Bool → Docs → List Field → Docs
 at_defaults droppable no_docs rs = no_docs
 at_defaults droppable (doc d ds) [] = doc d ds

@@ -3,7 +3,6 @@ ghost use Rattle.std.specs.Prelude.{◌≡◌, OnOk, true};
 ghost use Rattle.oxt_annotations.specs.Stripped.{stripped};
 ghost use Rattle.oxt_traverse.specs.Level.{IsAside, IsLevel};
 ghost use Rattle.oxt_tree.specs.View.{node_doc};
-ghost use Rattle.oxt_walk.specs.Idle.{IsIdle};
 
 use crate::fields::clear_types;
 use crate::opening::open_wrapper;
@@ -13,28 +12,10 @@ use oxt_traverse::hook::Hook;
 use oxt_traverse::traverse::Traverse;
 use oxt_tree::ids::OutOfMemory;
 use oxt_tree::tree::{Node, Part};
-use oxt_walk::walk::walk_program;
-
-/// Erases the types of the program, in one walk: what it is without types, it is afterwards too.
-///
-/// `program` is a node of kind `Program`.
-///
-/// # Errors
-///
-/// `OutOfMemory` for want of memory or of numbers alone. The tree and the context may then only be
-/// dropped.
-pub fn erase_annotations(program: &mut Node, ctx: &mut TraverseCtx) -> Result<(), OutOfMemory>
-    requires idle { IsIdle true ctx.old }
-    ensures level { OnOk result (IsLevel ctx.old ctx.new) }
-    ensures read { OnOk result (stripped (node_doc program.new) ≡ stripped (node_doc program.old)) }
-    ensures aside { OnOk result (IsAside true ctx.old ctx.new) }
-{
-    walk_program(&mut TypeScriptAnnotations::new(), program, ctx)
-}
 
 /// The pass that erases what stands for nothing at run time: declarations and class elements of
-/// TypeScript alone, fields that only TypeScript has, and the wrappers around expressions. What is left of a tree without
-/// its types, it keeps. It puts nothing aside.
+/// TypeScript alone, fields that only TypeScript has, and the wrappers around expressions. What is
+/// left of a tree without its types, it keeps. It puts nothing aside.
 #[derive(Clone, Copy, Debug)]
 pub struct TypeScriptAnnotations;
 
@@ -78,8 +59,7 @@ impl Traverse for TypeScriptAnnotations {
         node: &mut Node,
         _ctx: &mut TraverseCtx,
     ) -> Result<(), OutOfMemory> {
-        clear_types(node);
-        Ok(())
+        clear_types(node)
     }
 
     fn enter_statements(
@@ -128,7 +108,7 @@ impl Traverse for TypeScriptAnnotations {
     }
 
     fn enter_class(&mut self, node: &mut Node, _ctx: &mut TraverseCtx) -> Result<(), OutOfMemory> {
-        clear_types(node);
+        clear_types(node)?;
         drop_elements(node);
         Ok(())
     }
@@ -138,8 +118,7 @@ impl Traverse for TypeScriptAnnotations {
         node: &mut Node,
         _ctx: &mut TraverseCtx,
     ) -> Result<(), OutOfMemory> {
-        clear_types(node);
-        Ok(())
+        clear_types(node)
     }
 
     fn enter_accessor_property(
@@ -147,8 +126,7 @@ impl Traverse for TypeScriptAnnotations {
         node: &mut Node,
         _ctx: &mut TraverseCtx,
     ) -> Result<(), OutOfMemory> {
-        clear_types(node);
-        Ok(())
+        clear_types(node)
     }
 
     fn enter_property_definition(
@@ -156,8 +134,7 @@ impl Traverse for TypeScriptAnnotations {
         node: &mut Node,
         _ctx: &mut TraverseCtx,
     ) -> Result<(), OutOfMemory> {
-        clear_types(node);
-        Ok(())
+        clear_types(node)
     }
 
     fn enter_function(
@@ -165,8 +142,7 @@ impl Traverse for TypeScriptAnnotations {
         node: &mut Node,
         _ctx: &mut TraverseCtx,
     ) -> Result<(), OutOfMemory> {
-        clear_types(node);
-        Ok(())
+        clear_types(node)
     }
 
     fn enter_arrow_function_expression(
@@ -174,8 +150,7 @@ impl Traverse for TypeScriptAnnotations {
         node: &mut Node,
         _ctx: &mut TraverseCtx,
     ) -> Result<(), OutOfMemory> {
-        clear_types(node);
-        Ok(())
+        clear_types(node)
     }
 
     fn enter_variable_declarator(
@@ -183,8 +158,7 @@ impl Traverse for TypeScriptAnnotations {
         node: &mut Node,
         _ctx: &mut TraverseCtx,
     ) -> Result<(), OutOfMemory> {
-        clear_types(node);
-        Ok(())
+        clear_types(node)
     }
 
     fn enter_call_expression(
@@ -192,8 +166,7 @@ impl Traverse for TypeScriptAnnotations {
         node: &mut Node,
         _ctx: &mut TraverseCtx,
     ) -> Result<(), OutOfMemory> {
-        clear_types(node);
-        Ok(())
+        clear_types(node)
     }
 
     fn enter_new_expression(
@@ -201,8 +174,7 @@ impl Traverse for TypeScriptAnnotations {
         node: &mut Node,
         _ctx: &mut TraverseCtx,
     ) -> Result<(), OutOfMemory> {
-        clear_types(node);
-        Ok(())
+        clear_types(node)
     }
 
     fn enter_tagged_template_expression(
@@ -210,8 +182,7 @@ impl Traverse for TypeScriptAnnotations {
         node: &mut Node,
         _ctx: &mut TraverseCtx,
     ) -> Result<(), OutOfMemory> {
-        clear_types(node);
-        Ok(())
+        clear_types(node)
     }
 
     fn enter_formal_parameter(
@@ -219,8 +190,7 @@ impl Traverse for TypeScriptAnnotations {
         node: &mut Node,
         _ctx: &mut TraverseCtx,
     ) -> Result<(), OutOfMemory> {
-        clear_types(node);
-        Ok(())
+        clear_types(node)
     }
 
     fn enter_formal_parameter_rest(
@@ -228,8 +198,7 @@ impl Traverse for TypeScriptAnnotations {
         node: &mut Node,
         _ctx: &mut TraverseCtx,
     ) -> Result<(), OutOfMemory> {
-        clear_types(node);
-        Ok(())
+        clear_types(node)
     }
 
     fn enter_catch_parameter(
@@ -237,8 +206,7 @@ impl Traverse for TypeScriptAnnotations {
         node: &mut Node,
         _ctx: &mut TraverseCtx,
     ) -> Result<(), OutOfMemory> {
-        clear_types(node);
-        Ok(())
+        clear_types(node)
     }
 
     fn enter_jsx_opening_element(
@@ -246,8 +214,55 @@ impl Traverse for TypeScriptAnnotations {
         node: &mut Node,
         _ctx: &mut TraverseCtx,
     ) -> Result<(), OutOfMemory> {
-        clear_types(node);
-        Ok(())
+        clear_types(node)
+    }
+
+    fn enter_if_statement(
+        &mut self,
+        node: &mut Node,
+        _ctx: &mut TraverseCtx,
+    ) -> Result<(), OutOfMemory> {
+        clear_types(node)
+    }
+
+    fn enter_while_statement(
+        &mut self,
+        node: &mut Node,
+        _ctx: &mut TraverseCtx,
+    ) -> Result<(), OutOfMemory> {
+        clear_types(node)
+    }
+
+    fn enter_do_while_statement(
+        &mut self,
+        node: &mut Node,
+        _ctx: &mut TraverseCtx,
+    ) -> Result<(), OutOfMemory> {
+        clear_types(node)
+    }
+
+    fn enter_for_statement(
+        &mut self,
+        node: &mut Node,
+        _ctx: &mut TraverseCtx,
+    ) -> Result<(), OutOfMemory> {
+        clear_types(node)
+    }
+
+    fn enter_for_in_statement(
+        &mut self,
+        node: &mut Node,
+        _ctx: &mut TraverseCtx,
+    ) -> Result<(), OutOfMemory> {
+        clear_types(node)
+    }
+
+    fn enter_for_of_statement(
+        &mut self,
+        node: &mut Node,
+        _ctx: &mut TraverseCtx,
+    ) -> Result<(), OutOfMemory> {
+        clear_types(node)
     }
 
     fn enter_import_declaration(
@@ -255,8 +270,7 @@ impl Traverse for TypeScriptAnnotations {
         node: &mut Node,
         _ctx: &mut TraverseCtx,
     ) -> Result<(), OutOfMemory> {
-        clear_types(node);
-        Ok(())
+        clear_types(node)
     }
 
     fn enter_export_all_declaration(
@@ -264,8 +278,7 @@ impl Traverse for TypeScriptAnnotations {
         node: &mut Node,
         _ctx: &mut TraverseCtx,
     ) -> Result<(), OutOfMemory> {
-        clear_types(node);
-        Ok(())
+        clear_types(node)
     }
 
     fn enter_export_from_declaration(
@@ -273,8 +286,7 @@ impl Traverse for TypeScriptAnnotations {
         node: &mut Node,
         _ctx: &mut TraverseCtx,
     ) -> Result<(), OutOfMemory> {
-        clear_types(node);
-        Ok(())
+        clear_types(node)
     }
 
     ghost lawful = { reads_stripped };

@@ -3,9 +3,10 @@
 mod show;
 mod trees;
 
-use crate::pass::erase_annotations;
+use crate::pass::TypeScriptAnnotations;
 use oxt_tree::ids::OutOfMemory;
 use oxt_tree::tree::Part;
+use oxt_walk::walk::walk_program;
 use show::show_node;
 use std::alloc::Global;
 use std::test::Fail;
@@ -15,7 +16,7 @@ use trees::{context, interface, program, variable, wrappers};
 fn stripped(alloc: Global, body: Vec<Part>) -> Result<String, OutOfMemory> {
     let mut tree = program(alloc, body)?;
     let mut ctx = context(alloc)?;
-    erase_annotations(&mut tree, &mut ctx)?;
+    walk_program(&mut TypeScriptAnnotations::new(), &mut tree, &mut ctx)?;
     let mut out = String::new(alloc);
     show_node(&mut out, &tree)?;
     Ok(out)

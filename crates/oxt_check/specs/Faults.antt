@@ -1,8 +1,18 @@
 -- What a fault says, and the faults of a source tree.
-use Rattle.std.specs.Prelude.{◌≡◌, Option, None, Some, option_map, ⊤}
-use Rattle.oxt_check.specs.Refusals.{Refusal, json, shape, unbuilt_form, uncertified, difference_in}
+use Rattle.std.specs.Prelude.{◌≡◌, ℕ, List, [], if◌then◌else◌, Option, None, Some, option_map, unwrap_or, ⊤}
+use Rattle.std.specs.Option.{option_or}
+use Rattle.oxt_captured.specs.Captured.{Capture, captured}
+use Rattle.oxt_check.specs.Refusals.{Refusal, json, shape, unbuilt_form, misplaced_node, captured_name, uncertified, difference_in}
 use Rattle.oxt_check.specs.declared.fault.Fault.{Fault}
 use Rattle.oxt_check.specs.declared.fault.Fault.TheVariants as fault
+use Rattle.oxt_kept.specs.Kept.{kept}
+use Rattle.oxt_misplaced.specs.Misplaced.{misplaced}
+use Rattle.oxt_misplaced.specs.declared.misplaced.MisplacedKind.{MisplacedKind}
+use Rattle.oxt_modules.specs.Retained.{is_definition_file}
+use Rattle.oxt_options.specs.Options.{TransformData}
+use Rattle.oxt_place.specs.Place.{place_of}
+use Rattle.oxt_plan.specs.Facts.{Facts, no_facts}
+use Rattle.oxt_scoping.specs.Scoped.{Scoped}
 use Rattle.oxt_unbuilt.specs.Unbuilt.{unbuilt}
 use Rattle.oxt_tree.specs.Doc.{Doc}
 use Rattle.oxt_tree.specs.Names.{name_bytes}
@@ -13,13 +23,43 @@ refusal_in fault.OutOfMemory = None
 refusal_in fault.Json = Some json
 refusal_in (fault.Shape place) = Some (shape (name_bytes place))
 refusal_in (fault.Unbuilt kind) = Some (unbuilt_form (name_bytes kind))
+refusal_in (fault.Misplaced kind place) = Some (misplaced_node kind (name_bytes place))
+refusal_in (fault.Captured name place) = Some (captured_name (name_bytes name) (name_bytes place))
 refusal_in (fault.Uncertified mismatch) = Some (uncertified (difference_in mismatch))
 
--- the first reason for which a source tree is refused: a form that is not built yet
-abbrev pub first_fault : Doc → Option Refusal
-first_fault source = option_map unbuilt_form (unbuilt source)
+-- ---- the faults of a source tree, of which that is the table of scopes and symbols
+
+-- where the node of that number stands
+abbrev pub place_text : Doc → ℕ → List ℕ
+place_text d n = unwrap_or (place_of n d) []
+
+abbrev pub misplaced_refusal : Doc → MisplacedKind × ℕ → Refusal
+misplaced_refusal d m = misplaced_node m.0 (place_text d m.1)
+
+abbrev pub captured_refusal : Doc → Capture → Refusal
+captured_refusal d c = captured_name c.name (place_text d c.node)
+
+-- the first misplaced node, and else the first captured name
+abbrev pub place_fault : Scoped → Doc → Option Refusal
+place_fault s d = option_or (option_map (misplaced_refusal d) (misplaced d)) (option_map (captured_refusal d) (captured s d))
+
+-- The first reason for which a source tree is refused: a form that is not built yet; and, where it is no file of
+-- definitions, of which nothing is left, a misplaced node or a captured name.
+abbrev pub first_fault : Scoped → Doc → Option Refusal
+first_fault s d = option_or (option_map unbuilt_form (unbuilt d)) (if is_definition_file d then None else place_fault s d)
 
 -- it is the first fault of the source tree; for want of memory, nothing is said
-abbrev pub IsFaultOf : Option Refusal → Doc → Type 0
-IsFaultOf None source = ⊤
-IsFaultOf (Some r) source = first_fault source ≡ Some r
+abbrev pub IsFaultOf : Option Refusal → Scoped → Doc → Type 0
+IsFaultOf None s d = ⊤
+IsFaultOf (Some r) s d = first_fault s d ≡ Some r
+
+-- the same of its places
+abbrev pub IsPlaceFault : Option Refusal → Scoped → Doc → Type 0
+IsPlaceFault None s d = ⊤
+IsPlaceFault (Some r) s d = place_fault s d ≡ Some r
+
+-- ---- the plan
+
+-- what a plan knows of the source tree: the specifiers that are kept
+abbrev pub facts_of : Scoped → Doc → TransformData → Facts
+facts_of s d o = record no_facts { kept = kept s d o.typescript }

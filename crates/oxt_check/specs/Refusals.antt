@@ -1,37 +1,52 @@
 -- Why a tree is refused, and the line that says so.
 use Rattle.std.specs.Prelude.{ℕ, List, ◌++◌, codes, decimal}
 use Rattle.oxt_check.specs.declared.fault.Mismatch.{Mismatch}
-use Rattle.oxt_check.specs.declared.fault.Mismatch.TheVariants.{Shape, Plain, Setting, Item}
+use Rattle.oxt_check.specs.declared.fault.Mismatch.TheVariants.{Shape, Plain, Setting, Item, Owner}
+use Rattle.oxt_misplaced.specs.declared.misplaced.MisplacedKind.{MisplacedKind}
+use Rattle.oxt_misplaced.specs.declared.misplaced.MisplacedKind.TheVariants.{Body, Decorator}
 use Rattle.oxt_tree.specs.Names.{name_bytes}
 
 -- how a lowered tree differs from what it has to be: the first place at which it is none of the
--- grammar, the first at which something of TypeScript is left, a setting of the program, or the
--- first item at which its word is not that of its source
+-- grammar, the first at which something of TypeScript is left, a setting of the program, the first item
+-- at which its word is not that of its source, or the first name whose owner is not that of its source
 pub data Difference : Type 0 where
   misfit_at : List ℕ → Difference
   typescript_at : List ℕ → Difference
   setting_at : List ℕ → Difference
   item_at : ℕ → Difference
+  owner_at : ℕ → Difference
 
 abbrev pub difference_in : Mismatch → Difference
 difference_in (Shape place) = misfit_at (name_bytes place)
 difference_in (Plain place) = typescript_at (name_bytes place)
 difference_in (Setting place) = setting_at (name_bytes place)
 difference_in (Item i) = item_at i
+difference_in (Owner i) = owner_at i
 
--- the bytes are no JSON; the value at a place is wrong; a form is not built yet; the lowered tree failed its test
+-- the bytes are no JSON; the value at a place is wrong; a form is not built yet; a node is misplaced; a name would be
+-- captured; the lowered tree failed its test
 pub data Refusal : Type 0 where
   json : Refusal
   shape : List ℕ → Refusal
   unbuilt_form : List ℕ → Refusal
+  misplaced_node : MisplacedKind → List ℕ → Refusal
+  captured_name : List ℕ → List ℕ → Refusal
   uncertified : Difference → Refusal
+
+-- how lines name what is misplaced
+abbrev pub kind_text : MisplacedKind → List ℕ
+kind_text Body = codes "body"
+kind_text Decorator = codes "decorator"
 
 -- the line on standard error
 abbrev pub line_of : Refusal → List ℕ
 line_of json = codes "json\n"
 line_of (shape place) = codes "shape " ++ place ++ codes "\n"
 line_of (unbuilt_form kind) = codes "unbuilt " ++ kind ++ codes "\n"
+line_of (misplaced_node m place) = codes "misplaced " ++ kind_text m ++ codes " " ++ place ++ codes "\n"
+line_of (captured_name name place) = codes "captured " ++ name ++ codes " " ++ place ++ codes "\n"
 line_of (uncertified (misfit_at place)) = codes "uncertified shape " ++ place ++ codes "\n"
 line_of (uncertified (typescript_at place)) = codes "uncertified plain " ++ place ++ codes "\n"
 line_of (uncertified (setting_at place)) = codes "uncertified setting " ++ place ++ codes "\n"
 line_of (uncertified (item_at i)) = codes "uncertified item " ++ decimal i ++ codes "\n"
+line_of (uncertified (owner_at i)) = codes "uncertified owner " ++ decimal i ++ codes "\n"

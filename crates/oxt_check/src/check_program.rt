@@ -1,37 +1,134 @@
 //! The check of a program, before any pass changes it.
-ghost use Rattle.std.specs.Prelude.{◌≡◌, None, OnOk, IfOk, IfErr};
-ghost use Rattle.oxt_check.specs.Faults.{IsFaultOf, first_fault, refusal_in};
-ghost use Rattle.oxt_plan.specs.Facts.{no_facts};
+ghost use Rattle.std.specs.Prelude.{◌≡◌, None, Some, OnOk, IfOk, IfErr};
+ghost use Rattle.oxt_captured.specs.Captured.{capture_view};
+ghost use Rattle.oxt_check.specs.Faults.{IsFaultOf, IsPlaceFault, captured_refusal, facts_of, first_fault, misplaced_refusal, place_fault, place_text, refusal_in};
+ghost use Rattle.oxt_misplaced.specs.Views.{misplaced_view};
+ghost use Rattle.oxt_modules.specs.Retained.{is_definition_file};
+ghost use Rattle.oxt_options.specs.Options.{transform_view};
+ghost use Rattle.oxt_plan.specs.Facts.{Answers};
+ghost use Rattle.oxt_tree.specs.Names.{name_bytes};
 ghost use Rattle.oxt_tree.specs.View.{node_doc};
 
 use crate::fault::Fault;
+use oxt_captured::captured::{CapturedName, first_captured};
+use oxt_kept::kept::kept_specifiers;
+use oxt_misplaced::misplaced::{Misplaced, first_misplaced};
 use oxt_options::TransformOptions;
+use oxt_place::place::place_of;
+use oxt_plan::lists::PlanLists;
 use oxt_plan::plan::Plan;
 use oxt_scoping::scoping::Scoping;
-use oxt_tree::tree::Program;
+use oxt_tree::ids::{NodeId, OutOfMemory};
+use oxt_tree::name::Name;
+use oxt_tree::tree::{Node, Program};
 use oxt_unbuilt::unbuilt::first_unbuilt;
 use std::alloc::Global;
 
 /// What the passes ask of the nodes of a program, whose table of scopes and symbols is `scoping`.
 ///
-/// So far no form is built that a pass would ask about, so that the plan is empty, and neither the
-/// table nor an option is looked at.
+/// So far they ask which specifiers of imports and exports are kept; the other lists of the plan are
+/// empty.
 ///
 /// # Errors
 ///
-/// The first form that is not built yet; nothing else but want of memory.
+/// The first form that is not built yet, or the first misplaced node, or the first name that would be
+/// captured, in this order; nothing else but want of memory. Of a file of definitions nothing is left,
+/// so that nothing in it is misplaced or captured.
 pub fn check(
     alloc: Global,
     program: &Program,
-    _scoping: &Scoping,
-    _options: &TransformOptions,
+    scoping: &Scoping,
+    options: &TransformOptions,
 ) -> Result<Plan, Fault>
-    ensures plan { IfOk result (λ plan. plan ≡ no_facts) }
-    ensures accepted { OnOk result (first_fault (node_doc program.now.root) ≡ None) }
-    ensures refused { IfErr result (λ f. IsFaultOf (refusal_in f) (node_doc program.now.root)) }
+    ensures plan { IfOk result
+        (λ plan. Answers plan (facts_of scoping.now (node_doc program.now.root) (transform_view options.now))) }
+    ensures accepted { OnOk result (first_fault scoping.now (node_doc program.now.root) ≡ None) }
+    ensures refused { IfErr result (λ f. IsFaultOf (refusal_in f) scoping.now (node_doc program.now.root)) }
 {
-    match first_unbuilt(alloc, &program.root)? {
-        Some(kind) => Err(Fault::Unbuilt { kind }),
-        None => Ok(Plan::empty(alloc)),
+    if let Some(kind) = first_unbuilt(alloc, &program.root)? {
+        return Err(Fault::Unbuilt { kind });
     }
+    if !is_definition_file(&program.root) {
+        match check_places(alloc, &program.root, scoping) {
+            Ok(()) => {}
+            Err(fault) => return Err(fault),
+        }
+    }
+    Ok(plan_of(alloc, &program.root, scoping, options)?)
+}
+
+/// Whether the program is a file of definitions.
+fn is_definition_file(program: &Node) -> bool
+    ensures { result ≡ is_definition_file (node_doc program.now) }
+{
+    program.holds_text("lang", "dts")
+}
+
+/// Finds the first misplaced node, and else the first captured name.
+fn check_places(alloc: Global, program: &Node, scoping: &Scoping) -> Result<(), Fault>
+    ensures accepted { OnOk result (place_fault scoping.now (node_doc program.now) ≡ None) }
+    ensures refused { IfErr result (λ f. IsPlaceFault (refusal_in f) scoping.now (node_doc program.now)) }
+{
+    if let Some(misplaced) = first_misplaced(program) {
+        return Err(misplaced_fault(alloc, program, misplaced)?);
+    }
+    if let Some(captured) = first_captured(program, scoping) {
+        return Err(captured_fault(alloc, program, captured)?);
+    }
+    Ok(())
+}
+
+/// The fault that a node is misplaced.
+fn misplaced_fault(
+    alloc: Global,
+    program: &Node,
+    misplaced: Misplaced,
+) -> Result<Fault, OutOfMemory>
+    ensures { IfOk result
+        (λ f. refusal_in f ≡ Some (misplaced_refusal (node_doc program.now) (misplaced_view misplaced))) }
+{
+    let place = place_text(alloc, program, misplaced.node)?;
+    Ok(Fault::Misplaced {
+        kind: misplaced.kind,
+        place,
+    })
+}
+
+/// The fault that a name would be captured.
+fn captured_fault(
+    alloc: Global,
+    program: &Node,
+    captured: CapturedName,
+) -> Result<Fault, OutOfMemory>
+    ensures { IfOk result
+        (λ f. refusal_in f ≡ Some (captured_refusal (node_doc program.now) (capture_view captured.entry))) }
+{
+    let place = place_text(alloc, program, captured.node)?;
+    let name = captured.name.share()?;
+    Ok(Fault::Captured { name, place })
+}
+
+/// Where the node of that number stands.
+fn place_text(alloc: Global, program: &Node, number: NodeId) -> Result<Name, OutOfMemory>
+    ensures { IfOk result (λ place. name_bytes place ≡ place_text (node_doc program.now) number.0) }
+{
+    match place_of(alloc, program, number)? {
+        Some(place) => Ok(place),
+        None => Ok(Name::new(alloc, "")?),
+    }
+}
+
+/// The plan for the program.
+fn plan_of(
+    alloc: Global,
+    program: &Node,
+    scoping: &Scoping,
+    options: &TransformOptions,
+) -> Result<Plan, OutOfMemory>
+    ensures { IfOk result
+        (λ plan. Answers plan (facts_of scoping.now (node_doc program.now) (transform_view options.now))) }
+{
+    let mut lists = PlanLists::empty(alloc);
+    lists.kept = kept_specifiers(alloc, program, scoping, &options.typescript)?;
+    Plan::new(alloc, lists)
 }

@@ -1,9 +1,10 @@
 //! Why bytes are refused.
 ghost use Rattle.std.specs.Prelude.{◌≡◌, IfOk, ◌++◌, codes, option_map, string_bytes};
 ghost use Rattle.oxt_check.specs.Faults.{refusal_in};
-ghost use Rattle.oxt_check.specs.Refusals.{difference_in, line_of, uncertified};
+ghost use Rattle.oxt_check.specs.Refusals.{difference_in, kind_text, line_of, uncertified};
 ghost use Rattle.oxt_check.specs.declared.fault.Fault.TheVariants.{OutOfMemory as NoMemory};
 
+pub use oxt_misplaced::misplaced::MisplacedKind;
 use oxt_tree::ids::OutOfMemory;
 use oxt_tree::name::Name;
 use std::alloc::{AllocError, Global};
@@ -25,6 +26,12 @@ pub enum Fault {
     /// The tree has a form that is not built yet: `kind` names the first.
     #[error("not built yet: {kind:?}", kind = .kind.as_str())]
     Unbuilt { kind: Name },
+    /// A node stands where it cannot be lowered.
+    #[error("a misplaced node at {place:?}", place = .place.as_str())]
+    Misplaced { kind: MisplacedKind, place: Name },
+    /// A name would change its owner, once the declaration that it means is erased.
+    #[error("the name {name:?} at {place:?} would be captured", name = .name.as_str(), place = .place.as_str())]
+    Captured { name: Name, place: Name },
     /// The lowered tree failed its certificate, and was thrown away.
     #[error("the lowered tree is not certified")]
     Uncertified { mismatch: Mismatch },
@@ -41,6 +48,8 @@ pub enum Mismatch {
     Setting { place: Name },
     /// Its effect word differs from the source's, at this index first.
     Item { index: usize },
+    /// A name has not the owner that it had in the source: the first such, counted from 0 among the names that are used.
+    Owner { index: usize },
 }
 
 impl From<OutOfMemory> for Fault {
@@ -62,6 +71,12 @@ impl Fault {
             Fault::Json => Ok(Some(String::from_str(alloc, "json\n")?)),
             Fault::Shape { place } => Ok(Some(named_line(alloc, "shape ", place.as_str())?)),
             Fault::Unbuilt { kind } => Ok(Some(named_line(alloc, "unbuilt ", kind.as_str())?)),
+            Fault::Misplaced { kind, place } => {
+                Ok(Some(placed_line(alloc, "misplaced ", kind_text(*kind), place.as_str())?))
+            }
+            Fault::Captured { name, place } => {
+                Ok(Some(placed_line(alloc, "captured ", name.as_str(), place.as_str())?))
+            }
             Fault::Uncertified { mismatch } => Ok(Some(uncertified_line(alloc, mismatch)?)),
         }
     }
@@ -77,6 +92,29 @@ fn named_line(alloc: Global, what: &str, name: &str) -> Result<String, AllocErro
     Ok(line)
 }
 
+// What is wrong, with what, where, and a line feed.
+fn placed_line(alloc: Global, what: &str, name: &str, place: &str) -> Result<String, AllocError>
+    ensures { IfOk result
+        (λ line. string_bytes line ≡ what.now ++ name.now ++ codes " " ++ place.now ++ codes "\n") }
+{
+    let mut line = String::from_str(alloc, what)?;
+    line.push_str(name)?;
+    line.push_str(" ")?;
+    line.push_str(place)?;
+    line.push_str("\n")?;
+    Ok(line)
+}
+
+// What a node that is misplaced is, as lines name it.
+fn kind_text(kind: MisplacedKind) -> &'static str
+    ensures { result.now ≡ kind_text kind }
+{
+    match kind {
+        MisplacedKind::Body => "body",
+        MisplacedKind::Decorator => "decorator",
+    }
+}
+
 // How the lowered tree fails its certificate, and a line feed.
 fn uncertified_line(alloc: Global, mismatch: &Mismatch) -> Result<String, AllocError>
     ensures { IfOk result
@@ -87,5 +125,6 @@ fn uncertified_line(alloc: Global, mismatch: &Mismatch) -> Result<String, AllocE
         Mismatch::Plain { place } => named_line(alloc, "uncertified plain ", place.as_str()),
         Mismatch::Setting { place } => named_line(alloc, "uncertified setting ", place.as_str()),
         Mismatch::Item { index } => format!(in alloc; "uncertified item {index}\n"),
+        Mismatch::Owner { index } => format!(in alloc; "uncertified owner {index}\n"),
     }
 }

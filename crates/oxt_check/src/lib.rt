@@ -7,7 +7,7 @@ pub mod fault;
 mod tests;
 
 pub use check_program::check;
-pub use fault::{Fault, Mismatch};
+pub use fault::{Fault, Mismatch, MisplacedKind};
 pub use oxt_options::{
     DecoratorOptions, Module, RewriteExtensionsMode, TransformOptions, TypeScriptOptions,
     parse_rewrite_import_extensions,

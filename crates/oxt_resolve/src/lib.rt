@@ -9,6 +9,4 @@ mod opening;
 pub mod resolve;
 mod spellings;
 mod symbols;
-#[cfg(test)]
-mod tests;
 mod uses;

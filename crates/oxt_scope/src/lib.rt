@@ -4,7 +4,5 @@
 pub mod look;
 pub mod owners;
 pub mod scope;
-#[cfg(test)]
-mod tests;
 pub mod usage;
 pub mod way;

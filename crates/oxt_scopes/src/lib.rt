@@ -3,5 +3,3 @@
 
 pub mod scopes;
 pub mod standing;
-#[cfg(test)]
-mod tests;

@@ -1,8 +1,9 @@
 -- What a fault says of the bytes.
 pub use Rattle.oxt_check.specs.Faults.{refusal_in}
-use Rattle.std.specs.Prelude.{◌≡◌, ℕ, List, Option, None, Some, ⊤}
+use Rattle.std.specs.Prelude.{ℕ, List, Option, None, Some, ⊤}
 use Rattle.oxt_json.specs.declared.read.ReadFault.{ReadFault}
 use Rattle.oxt_json.specs.declared.read.ReadFault.TheVariants as read_fault
+use Rattle.oxt_options.specs.Options.{TransformData}
 use Rattle.oxt_transform.specs.Refusals.{Refusal, json, shape, Refuses}
 use Rattle.oxt_transform.specs.declared.transform.TransformerReturn.{TransformerReturn}
 use Rattle.oxt_tree.specs.Names.{name_bytes}
@@ -13,10 +14,10 @@ read_refusal read_fault.OutOfMemory = None
 read_refusal read_fault.Json = Some json
 read_refusal (read_fault.Shape place) = Some (shape (name_bytes place))
 
--- the bytes are refused for this reason; for want of memory, nothing is said
-abbrev pub IsReasonFor : Option Refusal → List ℕ → Type 0
-IsReasonFor None bytes = ⊤
-IsReasonFor (Some r) bytes = Refuses r bytes
+-- the bytes are refused for this reason under these options; for want of memory, nothing is said
+abbrev pub IsReasonFor : Option Refusal → TransformData → List ℕ → Type 0
+IsReasonFor None o bytes = ⊤
+IsReasonFor (Some r) o bytes = Refuses r o bytes
 
 -- the bytes of an answer
 abbrev pub text_in : TransformerReturn → List ℕ

@@ -1,4 +1,5 @@
 pub mod Faults
+pub mod Left
 pub mod Lowering
 pub mod Outcomes
 pub mod Refusals

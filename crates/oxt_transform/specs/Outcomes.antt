@@ -1,8 +1,10 @@
 -- What a run answers, and what that says of the words, the source and the sinks.
-use Rattle.std.specs.Prelude.{◌≡◌, ◌≤◌, ℕ, Bool, true, false, List, [], ◌∷◌, ◌++◌, length, Option, None, Some, codes, ⊤}
+use Rattle.std.specs.Prelude.{◌≡◌, ◌≤◌, ℕ, Bool, true, false, List, [], ◌∷◌, ◌++◌, length, map, Option, Some, codes, ⊤}
 use Rattle.std.specs.Io.KnownBytes.{Appends}
+use Rattle.oxt_flags.specs.Flags.{parsed}
 use Rattle.oxt_io.specs.Counts.{Rose}
 use Rattle.oxt_io.specs.Passed.{GaveAll, AppendsPrefix}
+use Rattle.oxt_options.specs.Options.{TransformData}
 use Rattle.oxt_transform.specs.Lowering.{Lowers}
 use Rattle.oxt_transform.specs.Faults.{refusal_in}
 use Rattle.oxt_transform.specs.Refusals.{Refusal, uncertified, Refuses, Accepts, line_of}
@@ -10,6 +12,7 @@ use Rattle.oxt_io.specs.declared.outcome.InputFault.{InputFault}
 use Rattle.oxt_io.specs.declared.outcome.InputFault.TheVariants as input
 use Rattle.oxt_check.specs.declared.fault.Fault.{Fault}
 use Rattle.oxt_transform.specs.declared.program.Outcome.{Outcome}
+use Rattle.oxt_tree.specs.Names.{name_bytes}
 use Rattle.oxt_tree.specs.declared.name.Name.{Name}
 use Rattle.oxt_transform.specs.declared.program.Outcome.TheVariants.{Done, Refused, Usage, ReadFault, WriteFault, Memory, TooLong}
 
@@ -20,6 +23,10 @@ limit = 16777216
 -- the line that says how the program is called
 abbrev pub usage_line : List ℕ
 usage_line = codes "usage: oxt [flags] < tree.json\n"
+
+-- the options that the words say; none where they are not taken
+abbrev pub options_in : List Name → Option TransformData
+options_in words = parsed (map name_bytes words)
 
 -- the exit status
 abbrev pub status_of : Outcome → ℕ
@@ -70,10 +77,11 @@ OnNoMessage Usage P = ⊤
 OnNoMessage WriteFault P = ⊤
 OnNoMessage _ P = P
 
--- words were given, or the fact holds
+-- for the outcomes that tell that the words were taken
 abbrev pub UnlessUsage : Outcome → Type 0 → Type 0
 UnlessUsage Usage P = ⊤
 UnlessUsage WriteFault P = ⊤
+UnlessUsage Memory P = ⊤
 UnlessUsage _ P = P
 
 -- the lowered tree failed its test
@@ -116,10 +124,10 @@ input_outcome input.TooLong = TooLong
 
 -- ---- the facts
 
--- The bytes were lowered to a text, which stands here with a line feed.
-pub record LowersToLine (bytes line : List ℕ) : Type 0 where
+-- The bytes were lowered under these options to a text, which stands here with a line feed.
+pub record LowersToLine (options : TransformData) (bytes line : List ℕ) : Type 0 where
   pub text : List ℕ
-  pub lowered : Lowers bytes text
+  pub lowered : Lowers options bytes text
   pub ended : line ≡ text ++ 10 ∷ []
 
 -- The fault handed on is the one that came, and err took its line.
@@ -129,23 +137,27 @@ pub record Reported (came named : Option Refusal) (taken taken' : Option (List �
   pub is : named ≡ Some refusal
   pub wrote : Appends taken taken' (line_of refusal)
 
--- All that the source held spells a tree that was lowered, and out took its text and a line feed.
-pub record Answered (left left' taken taken' : Option (List ℕ)) : Type 0 where
+-- All that the source held spells a tree that was lowered under the options of the words, and out took its text and a line feed.
+pub record Answered (words : List Name) (left left' taken taken' : Option (List ℕ)) : Type 0 where
+  pub options : TransformData
+  pub given : options_in words ≡ Some options
   pub bytes : List ℕ
   pub text : List ℕ
   pub read : GaveAll left left' bytes
   pub within : length bytes ≤ limit
-  pub lowered : Lowers bytes text
+  pub lowered : Lowers options bytes text
   pub wrote : Appends taken taken' (text ++ 10 ∷ [])
 
--- All that the source held is refused for this reason, and err took its line.
-pub record RefusedFor (reason : Option Refusal) (left left' taken taken' : Option (List ℕ)) : Type 0 where
+-- All that the source held is refused for this reason under the options of the words, and err took its line.
+pub record RefusedFor (words : List Name) (reason : Option Refusal) (left left' taken taken' : Option (List ℕ)) : Type 0 where
+  pub options : TransformData
+  pub given : options_in words ≡ Some options
   pub bytes : List ℕ
   pub refusal : Refusal
   pub read : GaveAll left left' bytes
   pub within : length bytes ≤ limit
   pub named : reason ≡ Some refusal
-  pub cause : Refuses refusal bytes
+  pub cause : Refuses refusal options bytes
   pub wrote : Appends taken taken' (line_of refusal)
 
 -- A sink failed, having taken a prefix of what it was to take.
@@ -160,20 +172,24 @@ pub record ReportCut (came : Option Refusal) (taken taken' : Option (List ℕ)) 
   pub prefix : AppendsPrefix taken taken' (line_of refusal)
 
 -- Out failed within the text of the plain tree; err was left alone.
-pub record AnswerCut (left left' taken taken' message message' : Option (List ℕ)) : Type 0 where
+pub record AnswerCut (words : List Name) (left left' taken taken' message message' : Option (List ℕ)) : Type 0 where
+  pub options : TransformData
+  pub given : options_in words ≡ Some options
   pub bytes : List ℕ
   pub text : List ℕ
   pub read : GaveAll left left' bytes
-  pub lowered : Lowers bytes text
+  pub lowered : Lowers options bytes text
   pub prefix : AppendsPrefix taken taken' (text ++ 10 ∷ [])
   pub quiet : message' ≡ message
 
 -- Err failed within the line for a refusal; out was left alone.
-pub record RefusalCut (left left' taken taken' message message' : Option (List ℕ)) : Type 0 where
+pub record RefusalCut (words : List Name) (left left' taken taken' message message' : Option (List ℕ)) : Type 0 where
+  pub options : TransformData
+  pub given : options_in words ≡ Some options
   pub bytes : List ℕ
   pub refusal : Refusal
   pub read : GaveAll left left' bytes
-  pub cause : Refuses refusal bytes
+  pub cause : Refuses refusal options bytes
   pub prefix : AppendsPrefix message message' (line_of refusal)
   pub quiet : taken' ≡ taken
 
@@ -182,9 +198,11 @@ pub record UsageCut (taken taken' message message' : Option (List ℕ)) : Type 0
   pub prefix : AppendsPrefix message message' usage_line
   pub quiet : taken' ≡ taken
 
--- No word is given, the source tells its bytes, which are few enough and spell a tree without faults, and nothing failed.
+-- The words are taken, the source tells its bytes, which are few enough and spell a tree without faults, and nothing
+-- failed.
 pub record NothingStands (words : List Name) (left : Option (List ℕ)) (read read' wrote wrote' told told' : ℕ) : Type 0 where
-  pub no_word : words ≡ []
+  pub options : TransformData
+  pub given : options_in words ≡ Some options
   pub bytes : List ℕ
   pub holds : left ≡ Some bytes
   pub within : length bytes ≤ limit

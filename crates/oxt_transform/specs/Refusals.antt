@@ -1,12 +1,16 @@
 -- Why bytes are refused.
-pub use Rattle.oxt_check.specs.Refusals.{Difference, misfit_at, typescript_at, setting_at, item_at, difference_in, Refusal, json, shape, unbuilt_form, uncertified, line_of}
-use Rattle.std.specs.Prelude.{ℕ, ◌≡◌, List, [], Bool, true, Option, None, Some, ⊤}
-use Rattle.oxt_annotations.specs.Stripped.{stripped}
-use Rattle.oxt_check.specs.Faults.{first_fault}
-use Rattle.oxt_unbuilt.specs.Unbuilt.{unbuilt}
+pub use Rattle.oxt_check.specs.Refusals.{Difference, misfit_at, typescript_at, setting_at, item_at, owner_at, difference_in, Refusal, json, shape, unbuilt_form, misplaced_node, captured_name, uncertified, line_of}
+use Rattle.std.specs.Prelude.{ℕ, ◌≡◌, List, [], true, Option, None, Some, ⊤}
+use Rattle.oxt_hygiene.specs.Keeps.{IsFirstMoved, KeepsOwners}
+use Rattle.oxt_hygiene.specs.Left.{left_owners}
 use Rattle.oxt_json.specs.Spelling.{no_value, wrong, tree, reading}
 use Rattle.oxt_tree.specs.Doc.{Doc}
-use Rattle.oxt_transform.specs.Settings.{is_script, wrong_setting}
+use Rattle.oxt_modules.specs.Retained.{is_definition_file}
+use Rattle.oxt_options.specs.Options.{TransformData}
+use Rattle.oxt_resolve.specs.Resolved.{resolved}
+use Rattle.oxt_scope.specs.Owners.{owners_of}
+use Rattle.oxt_transform.specs.Left.{HasLeft, fault_of, module_left}
+use Rattle.oxt_transform.specs.Settings.{SettingsData, settings_of, wrong_setting}
 use Rattle.oxt_valid.specs.Misfit.{first_misfit}
 use Rattle.oxt_valid.specs.Plain.{is_plain}
 use Rattle.oxt_valid.specs.Remains.{first_typescript}
@@ -22,59 +26,81 @@ use Rattle.oxt_word.specs.Word.{word}
 abbrev pub names_of : Doc → List (List ℕ)
 names_of source = all_added (names source) []
 
--- what the test of a lowered tree says, beside the word of its source, its names, and whether that was a script:
--- nothing, where it is a plain tree of the grammar with the right settings and that word
-abbrev pub Judges : List Entry → List (List ℕ) → Bool → Doc → Option Difference → Type 0
-Judges before names was_script output None =
+-- what the test of a lowered tree says, beside the word of what is left of its source, its names and settings, and the
+-- first name that has another owner: nothing, where it is a plain tree of the grammar with the right settings,
+-- that word, and no such name
+abbrev pub Judges : List Entry → List (List ℕ) → SettingsData → Option ℕ → Doc → Option Difference → Type 0
+Judges before names settings moved output None =
     (is_tree output ≡ true) × (is_plain output ≡ true)
-    × (wrong_setting was_script output ≡ None) × (before ≡ word (of_output names output) output)
-Judges before names was_script output (Some (misfit_at place)) = first_misfit output ≡ Some place
-Judges before names was_script output (Some (typescript_at place)) =
+    × (wrong_setting settings output ≡ None) × (before ≡ word (of_output names output) output) × (moved ≡ None)
+Judges before names settings moved output (Some (misfit_at place)) = first_misfit output ≡ Some place
+Judges before names settings moved output (Some (typescript_at place)) =
     (is_tree output ≡ true) × (first_typescript output ≡ Some place)
-Judges before names was_script output (Some (setting_at place)) =
+Judges before names settings moved output (Some (setting_at place)) =
     (is_tree output ≡ true) × (is_plain output ≡ true)
-    × (wrong_setting was_script output ≡ Some place)
-Judges before names was_script output (Some (item_at i)) =
+    × (wrong_setting settings output ≡ Some place)
+Judges before names settings moved output (Some (item_at i)) =
     (is_tree output ≡ true) × (is_plain output ≡ true)
-    × (wrong_setting was_script output ≡ None)
+    × (wrong_setting settings output ≡ None)
     × IsFirstDifference before (word (of_output names output) output) (Some i)
+Judges before names settings moved output (Some (owner_at i)) =
+    (is_tree output ≡ true) × (is_plain output ≡ true)
+    × (wrong_setting settings output ≡ None)
+    × (before ≡ word (of_output names output) output) × (moved ≡ Some i)
 
--- The source has no fault, but a tree of which the same is left without types fails its test so.
-pub record Fails (difference : Difference) (source : Doc) : Type 0 where
+-- that reason says how the tree fails; for want of memory, nothing is said
+abbrev pub IsFailure : Option Refusal → List Entry → List (List ℕ) → SettingsData → Option ℕ → Doc → Type 0
+IsFailure None before names settings moved output = ⊤
+IsFailure (Some (uncertified d)) before names settings moved output = Judges before names settings moved output (Some d)
+IsFailure (Some r) before names settings moved output = ⊥
+
+-- the first name of the output whose owner is not the one that is left of its owner in the source
+abbrev pub IsMoved : Doc → Doc → Option ℕ → Type 0
+IsMoved source output None = KeepsOwners (resolved source) source output
+IsMoved source output (Some i) = IsFirstMoved (left_owners (resolved source) (owners_of source)) (owners_of output) i
+
+-- The source has no fault, but a tree of which the same is left as of the source fails its test so.
+pub record Fails (difference : Difference) (options : TransformData) (next : ℕ) (source : Doc) : Type 0 where
   pub output : Doc
-  pub faultless : first_fault source ≡ None
-  pub left : stripped output ≡ stripped source
-  pub judged : Judges (word of_source source) (names_of source) (is_script source) output (Some difference)
+  pub moved : Option ℕ
+  pub faultless : fault_of source ≡ None
+  pub left : HasLeft (is_definition_file source) (module_left options next source) output
+  pub owners : IsMoved source output moved
+  pub judged : Judges (word of_source (module_left options next source)) (names_of source) (settings_of source) moved output (Some difference)
 
 -- a source tree is not lowered for this reason
-abbrev pub Hinders : Refusal → Doc → Type 0
-Hinders json source = ⊥
-Hinders (shape place) source = ⊥
-Hinders (unbuilt_form kind) source = unbuilt source ≡ Some kind
-Hinders (uncertified difference) source = Fails difference source
+abbrev pub Hinders : Refusal → TransformData → ℕ → Doc → Type 0
+Hinders json o next source = ⊥
+Hinders (shape place) o next source = ⊥
+Hinders (unbuilt_form kind) o next source = fault_of source ≡ Some (unbuilt_form kind)
+Hinders (misplaced_node kind place) o next source = fault_of source ≡ Some (misplaced_node kind place)
+Hinders (captured_name name place) o next source = fault_of source ≡ Some (captured_name name place)
+Hinders (uncertified difference) o next source = Fails difference o next source
 
 -- a source tree is not lowered for this reason; for want of memory, nothing is said
-abbrev pub IsHindrance : Option Refusal → Doc → Type 0
-IsHindrance None source = ⊤
-IsHindrance (Some r) source = Hinders r source
+abbrev pub IsHindrance : Option Refusal → TransformData → ℕ → Doc → Type 0
+IsHindrance None o next source = ⊤
+IsHindrance (Some r) o next source = Hinders r o next source
 
 -- The bytes spell a tree that is not lowered for this reason.
-pub record IsHindered (r : Refusal) (bytes : List ℕ) : Type 0 where
+pub record IsHindered (r : Refusal) (options : TransformData) (bytes : List ℕ) : Type 0 where
   pub source : Doc
   pub next : ℕ
   pub spelled : reading bytes ≡ tree source next
-  pub cause : Hinders r source
+  pub cause : Hinders r options next source
 
 -- the bytes are refused for this reason
-abbrev pub Refuses : Refusal → List ℕ → Type 0
-Refuses json bytes = reading bytes ≡ no_value
-Refuses (shape place) bytes = reading bytes ≡ wrong place
-Refuses (unbuilt_form kind) bytes = IsHindered (unbuilt_form kind) bytes
-Refuses (uncertified difference) bytes = IsHindered (uncertified difference) bytes
+abbrev pub Refuses : Refusal → TransformData → List ℕ → Type 0
+Refuses json o bytes = reading bytes ≡ no_value
+Refuses (shape place) o bytes = reading bytes ≡ wrong place
+Refuses (unbuilt_form kind) o bytes = IsHindered (unbuilt_form kind) o bytes
+Refuses (misplaced_node kind place) o bytes = IsHindered (misplaced_node kind place) o bytes
+Refuses (captured_name name place) o bytes = IsHindered (captured_name name place) o bytes
+Refuses (uncertified difference) o bytes = IsHindered (uncertified difference) o bytes
 
 -- The bytes spell a tree that has no fault.
 pub record Accepts (bytes : List ℕ) : Type 0 where
   pub source : Doc
   pub next : ℕ
   pub spelled : reading bytes ≡ tree source next
-  pub faultless : first_fault source ≡ None
+  pub faultless : fault_of source ≡ None

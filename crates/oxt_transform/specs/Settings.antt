@@ -1,5 +1,7 @@
 -- The settings of a program, which are no part of its word.
 use Rattle.std.specs.Prelude.{List, ℕ, Bool, true, false, not, if◌then◌else◌, Option, None, Some, codes}
+use Rattle.oxt_modules.specs.Retained.{is_definition_file}
+use Rattle.oxt_transform.specs.declared.certificate.Settings.{Settings}
 use Rattle.oxt_tree.specs.Doc.{Doc}
 use Rattle.oxt_tree.specs.Fields.{field_of, is_text}
 
@@ -15,10 +17,25 @@ abbrev pub differs : Bool → Bool → Bool
 differs true b = not b
 differs false b = b
 
--- The setting in which a lowered program is wrong: it is a script exactly where its source was one,
--- and it is JavaScript.
-abbrev pub wrong_setting : Bool → Doc → Option (List ℕ)
-wrong_setting was_script output =
-    if differs was_script (is_script output) then Some (codes "/sourceType")
-    else if is_javascript output then None
+-- what is known of the settings of a source: that it is a script, and that it is a file of definitions
+pub record SettingsData : Type 0 where
+  pub script : Bool
+  pub definitions : Bool
+
+abbrev pub settings_view : Settings → SettingsData
+settings_view s = record { script = s.script; definitions = s.definitions }
+
+abbrev pub settings_of : Doc → SettingsData
+settings_of source = record { script = is_script source; definitions = is_definition_file source }
+
+-- a file of definitions where the source is one, and else JavaScript
+abbrev pub has_language : Bool → Doc → Bool
+has_language definitions output = if definitions then is_definition_file output else is_javascript output
+
+-- The setting in which a lowered program is wrong: it is a script exactly where its source is one, and a
+-- file of definitions where its source is one, and else JavaScript.
+abbrev pub wrong_setting : SettingsData → Doc → Option (List ℕ)
+wrong_setting s output =
+    if differs s.script (is_script output) then Some (codes "/sourceType")
+    else if has_language s.definitions output then None
     else Some (codes "/lang")

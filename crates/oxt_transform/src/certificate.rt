@@ -1,6 +1,9 @@
 //! The test of a lowered tree, before it is written.
 ghost use Rattle.std.specs.Prelude.{◌≡◌, IfOk, option_map};
-ghost use Rattle.oxt_transform.specs.Settings.{differs, is_javascript, is_script, wrong_setting};
+ghost use Rattle.oxt_transform.specs.Settings.{differs, has_language, is_javascript, is_script, settings_of, settings_view, wrong_setting};
+ghost use Rattle.oxt_hygiene.specs.Keeps.{first_moved};
+ghost use Rattle.oxt_modules.specs.Retained.{is_definition_file};
+ghost use Rattle.oxt_scope.specs.Owners.{owners_of};
 ghost use Rattle.oxt_tree.specs.Names.{name_bytes};
 ghost use Rattle.oxt_transform.specs.Refusals.{Judges, difference_in};
 ghost use Rattle.oxt_tree.specs.View.{node_doc};
@@ -10,6 +13,7 @@ ghost use Rattle.oxt_word.specs.Word.{word};
 
 pub use oxt_check::fault::Mismatch;
 use oxt_facts::facts::Facts;
+use oxt_hygiene::source_owners::SourceOwners;
 use oxt_item::compare::{Difference, first_difference};
 use oxt_item::item::Item;
 use oxt_tree::ids::OutOfMemory;
@@ -21,17 +25,40 @@ use oxt_valid::remains::first_typescript;
 use oxt_word::word::word_of;
 use std::alloc::Global;
 
-/// How the tree fails to be of the grammar, plain, a script exactly where the source was one, of
-/// JavaScript, and of the effect word `before`, in this order; none where it does not fail. `names` are
-/// those of the source.
+/// The settings of a source.
+#[derive(Clone, Copy, Debug)]
+pub struct Settings {
+    /// It is a script, and no module.
+    pub script: bool,
+    /// It is a file of definitions.
+    pub definitions: bool,
+}
+
+impl Settings {
+    /// Those of that program.
+    pub fn of(program: &Node) -> Settings
+        ensures { settings_view result ≡ settings_of (node_doc program.now) }
+    {
+        Settings {
+            script: is_script(program),
+            definitions: is_definition_file(program),
+        }
+    }
+}
+
+/// How the tree fails to be of the grammar, plain, of the right settings, of the effect word `before`, and to
+/// leave each name its owner, in this order; none where it does not fail. `names`, `settings` and
+/// `owners` are those of the source.
 pub fn find_mismatch(
     alloc: Global,
     before: &[Item],
     names: &UidNames,
-    was_script: bool,
+    settings: Settings,
+    owners: &SourceOwners,
     output: &Node,
 ) -> Result<Option<Mismatch>, OutOfMemory>
-    ensures { IfOk result (λ mismatch. Judges (entries before.now) names.now was_script (node_doc output.now)
+    ensures { IfOk result (λ mismatch. Judges (entries before.now) names.now (settings_view settings)
+        (first_moved owners.now (owners_of (node_doc output.now))) (node_doc output.now)
         (option_map difference_in mismatch)) }
 {
     if let Some(place) = first_misfit(alloc, output)? {
@@ -40,13 +67,16 @@ pub fn find_mismatch(
     if let Some(place) = first_typescript(alloc, output)? {
         return Ok(Some(Mismatch::Plain { place }));
     }
-    if let Some(place) = wrong_setting(alloc, was_script, output)? {
+    if let Some(place) = wrong_setting(alloc, settings, output)? {
         return Ok(Some(Mismatch::Setting { place }));
     }
     let facts = Facts::of_output(alloc, names, output)?;
     let after = word_of(&facts, output)?;
-    match first_difference(before, after.as_slice()) {
-        Some(Difference { index, .. }) => Ok(Some(Mismatch::Item { index })),
+    if let Some(Difference { index, .. }) = first_difference(before, after.as_slice()) {
+        return Ok(Some(Mismatch::Item { index }));
+    }
+    match owners.first_moved(alloc, output)? {
+        Some(index) => Ok(Some(Mismatch::Owner { index })),
         None => Ok(None),
     }
 }
@@ -61,23 +91,41 @@ pub(crate) fn source_word(alloc: Global, root: &Node) -> Result<Vec<Item>, OutOf
 /// The setting in which the lowered program is wrong.
 fn wrong_setting(
     alloc: Global,
-    was_script: bool,
+    settings: Settings,
     output: &Node,
 ) -> Result<Option<Name>, OutOfMemory>
     ensures { IfOk result (λ place. option_map name_bytes place
-        ≡ wrong_setting was_script (node_doc output.now)) }
+        ≡ wrong_setting (settings_view settings) (node_doc output.now)) }
 {
-    if differs(was_script, is_script(output)) {
+    if differs(settings.script, is_script(output)) {
         Ok(Some(Name::new(alloc, "/sourceType")?))
-    } else if is_javascript(output) {
+    } else if has_language(settings.definitions, output) {
         Ok(None)
     } else {
         Ok(Some(Name::new(alloc, "/lang")?))
     }
 }
 
+/// Whether the program is a file of definitions where the source is one, and else JavaScript.
+fn has_language(definitions: bool, output: &Node) -> bool
+    ensures { result ≡ has_language definitions (node_doc output.now) }
+{
+    if definitions {
+        is_definition_file(output)
+    } else {
+        is_javascript(output)
+    }
+}
+
+/// Whether the program is a file of definitions.
+fn is_definition_file(program: &Node) -> bool
+    ensures { result ≡ is_definition_file (node_doc program.now) }
+{
+    program.holds_text("lang", "dts")
+}
+
 /// Whether the program is a script, and no module.
-pub fn is_script(program: &Node) -> bool
+fn is_script(program: &Node) -> bool
     ensures { result ≡ is_script (node_doc program.now) }
 {
     program.holds_text("sourceType", "script")

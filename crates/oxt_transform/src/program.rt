@@ -1,15 +1,17 @@
 //! The program's one call: from a source to two sinks.
-ghost use Rattle.std.specs.Prelude.{◌≡◌, ◌≢◌, ◌≤◌, ◌⊎◌, List, [], ◌∷◌, ◌++◌, length, None, Some, IfOk, IfErr};
+ghost use Rattle.std.specs.Prelude.{◌≡◌, ◌≤◌, ◌⊎◌, List, [], ◌∷◌, ◌++◌, length, None, Some, IfOk, IfErr, is_some, true};
 ghost use Rattle.std.specs.Io.KnownBytes.{Appends};
 ghost use Rattle.oxt_io.specs.Counts.{Rose};
 ghost use Rattle.oxt_io.specs.Passed.{GavePast};
+ghost use Rattle.oxt_options.specs.Options.{transform_view};
 ghost use Rattle.oxt_transform.specs.Faults.{refusal_in, IsReasonFor};
 ghost use Rattle.oxt_transform.specs.Lowering.{Lowers};
-ghost use Rattle.oxt_transform.specs.Outcomes.{limit, usage_line, status_of, OnDone, IfRefused, OnUsage, OnReadFault, OnWriteFault, OnTooLong, OnNoAnswer, OnNoMessage, UnlessUsage, IsDoneUncertifiedOrMemory, Answered, RefusedFor, CutOff, OnMemory, IsUsageOrWriteFault, IsDoneOrWriteFault, IsRefusedMemoryOrWriteFault, input_outcome, LowersToLine, Reported, ReportCut, AnswerCut, RefusalCut, UsageCut, NothingStands};
+ghost use Rattle.oxt_transform.specs.Outcomes.{limit, options_in, usage_line, status_of, OnDone, IfRefused, OnUsage, OnReadFault, OnWriteFault, OnTooLong, OnNoAnswer, OnNoMessage, UnlessUsage, IsDoneUncertifiedOrMemory, Answered, RefusedFor, CutOff, OnMemory, IsUsageOrWriteFault, IsDoneOrWriteFault, IsRefusedMemoryOrWriteFault, input_outcome, LowersToLine, Reported, ReportCut, AnswerCut, RefusalCut, UsageCut, NothingStands};
 ghost use Rattle.oxt_transform.specs.Refusals.{line_of};
 
 use crate::fault::Fault;
 use crate::transform::{TransformOptions, transform_text};
+use oxt_flags::options::options_of;
 use oxt_io::{InputFault, Sink, Source, read_to_limit, write_all};
 use oxt_tree::name::Name;
 use std::alloc::Global;
@@ -58,7 +60,8 @@ impl Outcome {
 
 /// Reads the tree from `source`, lowers it, and writes it to `out`, or a line that says why not to `err`.
 ///
-/// `words` are the words after the program's name. All bytes are made before the first is written.
+/// `words` are the words after the program's name, which say the options. All bytes are made before the
+/// first is written.
 pub fn run<S: Source, O: Sink, E: Sink>(
     alloc: Global,
     words: &[Name],
@@ -68,23 +71,23 @@ pub fn run<S: Source, O: Sink, E: Sink>(
 ) -> Outcome
     // What was read was lowered and written.
     ensures done { OnDone result
-        (Answered (S.left source.old) (S.left source.new) (O.taken out.old) (O.taken out.new)) }
+        (Answered words.now (S.left source.old) (S.left source.new) (O.taken out.old) (O.taken out.new)) }
 
     // Each other answer has its cause.
-    ensures refused { IfRefused result (λ f. RefusedFor (refusal_in f)
+    ensures refused { IfRefused result (λ f. RefusedFor words.now (refusal_in f)
         (S.left source.old) (S.left source.new) (E.taken err.old) (E.taken err.new)) }
-    ensures usage { OnUsage result (words.now ≢ []) }
+    ensures usage { OnUsage result (options_in words.now ≡ None) }
     ensures usage_line { OnUsage result (Appends (E.taken err.old) (E.taken err.new) usage_line) }
-    ensures words_taken { UnlessUsage result (words.now ≡ []) }
+    ensures words_taken { UnlessUsage result (is_some (options_in words.now) ≡ true) }
     ensures read_fault { OnReadFault result (Rose (S.faults source.old) (S.faults source.new)) }
     ensures too_long { OnTooLong result (GavePast (S.left source.old) (S.left source.new) limit) }
     ensures write_fault { OnWriteFault result
         (Rose (O.faults out.old) (O.faults out.new) ⊎ Rose (E.faults err.old) (E.faults err.new)) }
 
     ensures cut_off { OnWriteFault result
-        (AnswerCut (S.left source.old) (S.left source.new) (O.taken out.old) (O.taken out.new)
+        (AnswerCut words.now (S.left source.old) (S.left source.new) (O.taken out.old) (O.taken out.new)
         (E.taken err.old) (E.taken err.new)
-        ⊎ (RefusalCut (S.left source.old) (S.left source.new) (O.taken out.old) (O.taken out.new)
+        ⊎ (RefusalCut words.now (S.left source.old) (S.left source.new) (O.taken out.old) (O.taken out.new)
         (E.taken err.old) (E.taken err.new)
         ⊎ UsageCut (O.taken out.old) (O.taken out.new) (E.taken err.old) (E.taken err.new))) }
 
@@ -97,14 +100,16 @@ pub fn run<S: Source, O: Sink, E: Sink>(
     ensures quiet_out { OnNoAnswer result (O.taken out.new ≡ O.taken out.old) }
     ensures quiet_err { OnNoMessage result (E.taken err.new ≡ E.taken err.old) }
 {
-    if !words.is_empty() {
-        return answer_usage(err);
-    }
+    let options = match options_of(alloc, words) {
+        Ok(Some(options)) => options,
+        Ok(None) => return answer_usage(err),
+        Err(_) => return Outcome::Memory,
+    };
     let bytes = match read_to_limit(alloc, source, LIMIT) {
         Ok(bytes) => bytes,
         Err(fault) => return outcome_of_input(fault),
     };
-    match lowered_line(alloc, bytes.as_slice()) {
+    match lowered_line(alloc, bytes.as_slice(), &options) {
         Ok(line) => answer(out, line.as_slice()),
         Err(fault) => refuse(alloc, fault, err),
     }
@@ -135,12 +140,12 @@ fn outcome_of_input(fault: InputFault) -> Outcome
 }
 
 // The text of the plain tree, with a line feed.
-fn lowered_line(alloc: Global, bytes: &[u8]) -> Result<Vec<u8>, Fault>
-    ensures lowers { IfOk result (λ line. LowersToLine bytes.now line.items) }
-    ensures refused { IfErr result (λ f. IsReasonFor (refusal_in f) bytes.now) }
+fn lowered_line(alloc: Global, bytes: &[u8], options: &TransformOptions) -> Result<Vec<u8>, Fault>
+    ensures lowers { IfOk result (λ line. LowersToLine (transform_view options.now) bytes.now line.items) }
+    ensures refused { IfErr result
+        (λ f. IsReasonFor (refusal_in f) (transform_view options.now) bytes.now) }
 {
-    let options = TransformOptions::defaults(alloc)?;
-    let mut text = transform_text(alloc, bytes, &options)?.into_text();
+    let mut text = transform_text(alloc, bytes, options)?.into_text();
     match text.push(b'\n') {
         Ok(()) => Ok(text),
         Err(_) => Err(Fault::OutOfMemory),

@@ -1,8 +1,10 @@
 use super::*;
-use crate::certificate::find_mismatch;
+use crate::certificate::{Settings, find_mismatch};
 use crate::walking::lower_by_walk;
 use oxt_facts::facts::Facts;
+use oxt_hygiene::source_owners::SourceOwners;
 use oxt_json::read_tree;
+use oxt_resolve::resolve::resolve;
 use oxt_uid::uid::UidNames;
 use oxt_word::word::word_of;
 use std::test::Fail;
@@ -74,9 +76,21 @@ fn a_setting_is_certified(rt: HostRuntime) -> Result<(), Fail> {
     };
     let names = UidNames::of_tree(alloc, &program.root)?;
     let word = word_of(&Facts::of_source(alloc), &program.root)?;
-    for (was_script, place) in [(false, "/lang"), (true, "/sourceType")] {
-        let mismatch = find_mismatch(alloc, word.as_slice(), &names, was_script, &program.root)?;
-        match mismatch {
+    let scoping = resolve(alloc, &program.root)?;
+    let owners = SourceOwners::of(alloc, &program.root, &scoping)?;
+    for (script, place) in [(false, "/lang"), (true, "/sourceType")] {
+        let settings = Settings {
+            script,
+            definitions: false,
+        };
+        match find_mismatch(
+            alloc,
+            word.as_slice(),
+            &names,
+            settings,
+            &owners,
+            &program.root,
+        )? {
             Some(Mismatch::Setting { place: found }) => assert_eq!(rt; found.as_str(), place),
             _ => return Err("no setting".into()),
         }

@@ -1,5 +1,6 @@
 //! The work on one tree.
 ghost use Rattle.std.specs.Prelude.{◌≡◌, IfOk, IfErr, OnOk};
+ghost use Rattle.oxt_options.specs.Options.{transform_view};
 ghost use Rattle.oxt_transform.specs.Faults.{refusal_in, IsReasonFor, text_in};
 ghost use Rattle.oxt_transform.specs.Lowering.{Lowers};
 ghost use Rattle.oxt_transform.specs.Refusals.{Accepts};
@@ -37,7 +38,7 @@ impl TransformerReturn {
 ///
 /// The passes lower it in one walk, and what comes out is tested before it is written.
 ///
-/// No field of the options acts yet: every tree is lowered as under the defaults.
+/// Of the options act `only_remove_type_imports`, `jsx_pragma` and `jsx_pragma_frag` so far.
 ///
 /// # Errors
 ///
@@ -47,9 +48,9 @@ pub fn transform_text(
     text: &[u8],
     options: &TransformOptions,
 ) -> Result<TransformerReturn, Fault>
-    ensures lowers { IfOk result (λ r. Lowers text.now (text_in r)) }
+    ensures lowers { IfOk result (λ r. Lowers (transform_view options.now) text.now (text_in r)) }
     ensures accepted { OnOk result (Accepts text.now) }
-    ensures refused { IfErr result (λ f. IsReasonFor (refusal_in f) text.now) }
+    ensures refused { IfErr result (λ f. IsReasonFor (refusal_in f) (transform_view options.now) text.now) }
 {
     let mut program = match read_tree(alloc, text) {
         Ok(program) => program,

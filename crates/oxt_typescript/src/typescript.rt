@@ -222,6 +222,54 @@ impl Traverse for TypeScript {
         self.annotations.enter_jsx_opening_element(node, ctx)
     }
 
+    fn enter_if_statement(
+        &mut self,
+        node: &mut Node,
+        ctx: &mut TraverseCtx,
+    ) -> Result<(), OutOfMemory> {
+        self.annotations.enter_if_statement(node, ctx)
+    }
+
+    fn enter_while_statement(
+        &mut self,
+        node: &mut Node,
+        ctx: &mut TraverseCtx,
+    ) -> Result<(), OutOfMemory> {
+        self.annotations.enter_while_statement(node, ctx)
+    }
+
+    fn enter_do_while_statement(
+        &mut self,
+        node: &mut Node,
+        ctx: &mut TraverseCtx,
+    ) -> Result<(), OutOfMemory> {
+        self.annotations.enter_do_while_statement(node, ctx)
+    }
+
+    fn enter_for_statement(
+        &mut self,
+        node: &mut Node,
+        ctx: &mut TraverseCtx,
+    ) -> Result<(), OutOfMemory> {
+        self.annotations.enter_for_statement(node, ctx)
+    }
+
+    fn enter_for_in_statement(
+        &mut self,
+        node: &mut Node,
+        ctx: &mut TraverseCtx,
+    ) -> Result<(), OutOfMemory> {
+        self.annotations.enter_for_in_statement(node, ctx)
+    }
+
+    fn enter_for_of_statement(
+        &mut self,
+        node: &mut Node,
+        ctx: &mut TraverseCtx,
+    ) -> Result<(), OutOfMemory> {
+        self.annotations.enter_for_of_statement(node, ctx)
+    }
+
     fn enter_import_declaration(
         &mut self,
         node: &mut Node,

@@ -1,4 +1,3 @@
 pub mod Dropped
-pub mod Forms
 pub mod Unbuilt
 pub mod UnbuiltKinds

@@ -4,7 +4,6 @@ use Rattle.std.specs.List.{list_any}
 use Rattle.std.specs.Option.{option_or}
 use Rattle.std.specs.Str.{bytes_eq}
 use Rattle.oxt_tree.specs.Inner.{inner_expression}
-use Rattle.oxt_unbuilt.specs.Dropped.{is_dropped}
 use Rattle.oxt_unbuilt.specs.UnbuiltKinds.{is_unbuilt_kind}
 use Rattle.oxt_table.specs.Field.{Field}
 use Rattle.oxt_table.specs.Kinds.{name_of}
@@ -18,19 +17,12 @@ use Rattle.oxt_table.specs.declared.kind.Kind.{Kind}
 use Rattle.oxt_table.specs.declared.kind.Kind.TheVariants as kind
 use Rattle.oxt_table.specs.declared.word.Words.TheVariants as words
 use Rattle.oxt_tree.specs.Doc.{Doc, nil, flag, number, text, list, node, Docs, no_docs, doc}
-use Rattle.oxt_tree.specs.Fields.{is_default, is_in, is_text}
+use Rattle.oxt_tree.specs.Fields.{is_default, is_in}
 
 -- the field holds the name of a language
 abbrev pub is_language : Holds → Bool
 is_language (holds.Word words.Lang) = true
 is_language h = false
-
--- one statement or the head of a `for` stands there, and not a list of statements
-abbrev pub is_single : Category → Bool
-is_single category.Statement = true
-is_single category.ForStatementInit = true
-is_single category.ForStatementLeft = true
-is_single c = false
 
 -- something is assigned there, or it is the element of a chain
 abbrev pub is_target : Category → Bool
@@ -40,10 +32,6 @@ is_target category.AssignmentTargetMaybeDefault = true
 is_target category.ForStatementLeft = true
 is_target category.ChainElement = true
 is_target c = false
-
--- an erased statement in a field of its own
-abbrev pub is_lone : Category → Doc → Bool
-is_lone c d = is_single c && is_dropped d
 
 -- what may stand there in the place of a wrapper: a call or a member in a chain, an identifier or a
 -- member where something is assigned
@@ -55,10 +43,10 @@ inside c = category.SimpleAssignmentTarget
 abbrev pub is_wrapped_target : Category → Doc → Bool
 is_wrapped_target c d = is_target c && (is_in category.Wrapper d && not (is_in (inside c) (inner_expression d)))
 
--- either of the two, by what the field holds in which the document stands or whose list it stands in
+-- the same, by what the field holds in which the document stands or in whose list
 abbrev pub is_misplaced : Holds → Doc → Bool
-is_misplaced (holds.Node c) d = is_lone c d || is_wrapped_target c d
-is_misplaced (holds.NodeOrNull c) d = is_lone c d || is_wrapped_target c d
+is_misplaced (holds.Node c) d = is_wrapped_target c d
+is_misplaced (holds.NodeOrNull c) d = is_wrapped_target c d
 is_misplaced (holds.List c) d = is_wrapped_target c d
 is_misplaced (holds.ListOfNullable c) d = is_wrapped_target c d
 is_misplaced h d = false
@@ -70,20 +58,8 @@ property_marks = codes "accessibility" ∷ codes "readonly" ∷ codes "override"
 abbrev pub is_parameter_property : Kind → Field → Doc → Bool
 is_parameter_property k r d = same_kind k kind.FormalParameter && (not (is_default r.holds d) && list_any (bytes_eq r.name) property_marks)
 
--- decorators of a parameter
-abbrev pub is_decorated : Kind → Field → Doc → Bool
-is_decorated k r d = same_kind k kind.FormalParameter && (not (is_default r.holds d) && bytes_eq r.name (codes "decorators"))
-
--- the program is a file of definitions
-abbrev pub is_definitions : Field → Doc → Bool
-is_definitions r d = is_language r.holds && is_text (codes "dts") d
-
 abbrev pub field_form : Kind → Field → Doc → Option (List ℕ)
-field_form k r d =
-    if is_definitions r d then Some (codes "dts")
-    else if is_parameter_property k r d then Some (name_of k)
-    else if is_decorated k r d then Some (name_of kind.Decorator)
-    else None
+field_form k r d = if is_parameter_property k r d then Some (name_of k) else None
 
 -- the first form of the fields of a node, themselves
 abbrev pub fields_form : Kind → List Field → Docs → Option (List ℕ)

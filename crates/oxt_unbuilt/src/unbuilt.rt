@@ -2,14 +2,12 @@
 ghost use Rattle.std.specs.Prelude.{◌≡◌, IfOk, map, option_map};
 ghost use Rattle.std.specs.List.{list_any};
 ghost use Rattle.std.specs.Str.{bytes_eq};
-ghost use Rattle.oxt_unbuilt.specs.Unbuilt.{field_form, fields_form, form_among, form_below, form_in, inside, is_decorated, is_lone, is_misplaced, is_parameter_property, is_target, is_wrapped_target, node_form, property_marks, unbuilt};
-ghost use Rattle.oxt_unbuilt.specs.Forms.{form_text};
+ghost use Rattle.oxt_unbuilt.specs.Unbuilt.{field_form, fields_form, form_among, form_below, form_in, inside, is_misplaced, is_parameter_property, is_target, is_wrapped_target, node_form, property_marks, unbuilt};
 ghost use Rattle.oxt_table.specs.Field.{row_view};
+ghost use Rattle.oxt_table.specs.Kinds.{name_of};
 ghost use Rattle.oxt_tree.specs.Names.{name_bytes};
 ghost use Rattle.oxt_tree.specs.View.{docs_in, node_doc, part_doc};
 
-use crate::dropped::is_dropped;
-use crate::rows::is_language;
 use crate::unbuilt_kinds::is_unbuilt;
 use oxt_table::category::Category;
 use oxt_table::holds::{Holds, Row};
@@ -19,42 +17,21 @@ use oxt_tree::name::Name;
 use oxt_tree::tree::{Node, Part};
 use std::alloc::Global;
 
-/// A form that is not transformed yet.
-#[derive(Clone, Copy, Debug)]
-enum Form {
-    /// A node of that kind.
-    Kind(Kind),
-    /// A whole file of definitions.
-    Definitions,
-}
-
-impl Form {
-    /// The form as messages name it.
-    fn name(self, alloc: Global) -> Result<Name, OutOfMemory>
-        ensures { IfOk result (λ name. name_bytes name ≡ form_text self) }
-    {
-        match self {
-            Form::Kind(kind) => Name::new(alloc, kind.name()),
-            Form::Definitions => Name::new(alloc, "dts"),
-        }
-    }
-}
-
 /// The first form in the tree that is not transformed yet, by its name: that of a node stands before those of
 /// the nodes in it.
 pub fn first_unbuilt(alloc: Global, program: &Node) -> Result<Option<Name>, OutOfMemory>
     ensures { IfOk result (λ form. option_map name_bytes form ≡ unbuilt (node_doc program.now)) }
 {
     match form_in_node(program, Holds::Node(Category::Program)) {
-        Some(form) => Ok(Some(form.name(alloc)?)),
+        Some(kind) => Ok(Some(Name::new(alloc, kind.name())?)),
         None => Ok(None),
     }
 }
 
 /// The first form in a part, where a field holds `holds`.
 #[cycle(find)]
-fn form_in_part(part: &Part, holds: Holds) -> Option<Form>
-    ensures { option_map form_text result ≡ form_in (part_doc part.now) holds }
+fn form_in_part(part: &Part, holds: Holds) -> Option<Kind>
+    ensures { option_map name_of result ≡ form_in (part_doc part.now) holds }
 {
     match part {
         Part::Node(node) => form_in_node(node, holds),
@@ -65,8 +42,8 @@ fn form_in_part(part: &Part, holds: Holds) -> Option<Form>
 
 /// The first form in a node: the node itself, or one in its fields.
 #[cycle(find)]
-fn form_in_node(node: &Node, holds: Holds) -> Option<Form>
-    ensures { option_map form_text result ≡ form_in (node_doc node.now) holds }
+fn form_in_node(node: &Node, holds: Holds) -> Option<Kind>
+    ensures { option_map name_of result ≡ form_in (node_doc node.now) holds }
 {
     match form_at(node, holds) {
         Some(form) => Some(form),
@@ -77,8 +54,8 @@ fn form_in_node(node: &Node, holds: Holds) -> Option<Form>
 /// The first form in the elements of a list.
 #[tactic(auto, using(crate::proofs::Found::among_more, crate::proofs::Found::among_done))]
 #[cycle(find)]
-fn form_among(parts: &[Part], holds: Holds) -> Option<Form>
-    ensures { option_map form_text result ≡ form_among (docs_in parts.now) holds }
+fn form_among(parts: &[Part], holds: Holds) -> Option<Kind>
+    ensures { option_map name_of result ≡ form_among (docs_in parts.now) holds }
 {
     for i in 0..parts.len() {
         if let Some(form) = form_in_part(&parts[i], holds) {
@@ -91,8 +68,8 @@ fn form_among(parts: &[Part], holds: Holds) -> Option<Form>
 /// The first form in what the fields of a node hold.
 #[tactic(auto, using(crate::proofs::Found::below_more, crate::proofs::Found::below_done))]
 #[cycle(find)]
-fn form_below(rows: &[Row], parts: &[Part]) -> Option<Form>
-    ensures { option_map form_text result ≡ form_below (docs_in parts.now) (map row_view rows.now) }
+fn form_below(rows: &[Row], parts: &[Part]) -> Option<Kind>
+    ensures { option_map name_of result ≡ form_below (docs_in parts.now) (map row_view rows.now) }
 {
     for i in 0..rows.len().min(parts.len()) {
         if let Some(form) = form_in_part(&parts[i], rows[i].holds) {
@@ -103,11 +80,11 @@ fn form_below(rows: &[Row], parts: &[Part]) -> Option<Form>
 }
 
 /// The form that the node is at its place.
-fn form_at(node: &Node, holds: Holds) -> Option<Form>
-    ensures { option_map form_text result ≡ node_form holds (node_doc node.now) node.now.kind (docs_in node.now.parts.items) }
+fn form_at(node: &Node, holds: Holds) -> Option<Kind>
+    ensures { option_map name_of result ≡ node_form holds (node_doc node.now) node.now.kind (docs_in node.now.parts.items) }
 {
     if is_unbuilt(node.kind) || is_misplaced(holds, node) {
-        Some(Form::Kind(node.kind))
+        Some(node.kind)
     } else {
         form_of_fields(node.kind, node.kind.rows(), node.parts.as_slice())
     }
@@ -115,8 +92,8 @@ fn form_at(node: &Node, holds: Holds) -> Option<Form>
 
 /// The first form that a field of a node is.
 #[tactic(auto, using(crate::proofs::Found::fields_more, crate::proofs::Found::fields_none))]
-fn form_of_fields(kind: Kind, rows: &[Row], parts: &[Part]) -> Option<Form>
-    ensures { option_map form_text result ≡ fields_form kind (map row_view rows.now) (docs_in parts.now) }
+fn form_of_fields(kind: Kind, rows: &[Row], parts: &[Part]) -> Option<Kind>
+    ensures { option_map name_of result ≡ fields_form kind (map row_view rows.now) (docs_in parts.now) }
 {
     for i in 0..rows.len().min(parts.len()) {
         if let Some(form) = form_of_field(kind, &rows[i], &parts[i]) {
@@ -127,25 +104,14 @@ fn form_of_fields(kind: Kind, rows: &[Row], parts: &[Part]) -> Option<Form>
 }
 
 /// The form that a field of a node is.
-fn form_of_field(kind: Kind, row: &Row, part: &Part) -> Option<Form>
-    ensures { option_map form_text result ≡ field_form kind (row_view row.now) (part_doc part.now) }
+fn form_of_field(kind: Kind, row: &Row, part: &Part) -> Option<Kind>
+    ensures { option_map name_of result ≡ field_form kind (row_view row.now) (part_doc part.now) }
 {
-    if is_language(row.holds) && part.is_text("dts") {
-        Some(Form::Definitions)
-    } else if is_parameter_property(kind, row, part) {
-        Some(Form::Kind(kind))
-    } else if is_decorated(kind, row, part) {
-        Some(Form::Kind(Kind::Decorator))
+    if is_parameter_property(kind, row, part) {
+        Some(kind)
     } else {
         None
     }
-}
-
-/// Whether the field has decorators of a parameter.
-fn is_decorated(kind: Kind, row: &Row, part: &Part) -> bool
-    ensures { result ≡ is_decorated kind (row_view row.now) (part_doc part.now) }
-{
-    kind.is(Kind::FormalParameter) && (!part.is_default(row.holds) && row.name == "decorators")
 }
 
 /// Whether the field makes a parameter a property of its class.
@@ -165,27 +131,15 @@ fn is_property_mark(name: &str) -> bool
     }
 }
 
-/// Whether the node is an erased statement in a field of its own, or a wrapper as a target.
+/// Whether the node is a wrapper as a target, by what the field holds in which it stands or in whose list.
 fn is_misplaced(holds: Holds, node: &Node) -> bool
     ensures { result ≡ is_misplaced holds (node_doc node.now) }
 {
     match holds {
-        Holds::Node(category) => is_lone(category, node) || is_wrapped_target(category, node),
-        Holds::NodeOrNull(category) => is_lone(category, node) || is_wrapped_target(category, node),
+        Holds::Node(category) => is_wrapped_target(category, node),
+        Holds::NodeOrNull(category) => is_wrapped_target(category, node),
         Holds::List(category) => is_wrapped_target(category, node),
         Holds::ListOfNullable(category) => is_wrapped_target(category, node),
-        _ => false,
-    }
-}
-
-/// Whether the node is an erased statement where one statement or the head of a `for` stands.
-fn is_lone(category: Category, node: &Node) -> bool
-    ensures { result ≡ is_lone category (node_doc node.now) }
-{
-    match category {
-        Category::Statement => is_dropped(node),
-        Category::ForStatementInit => is_dropped(node),
-        Category::ForStatementLeft => is_dropped(node),
         _ => false,
     }
 }

@@ -9,7 +9,7 @@ loop-i-preserved c = record {
   id = c.loop-i.invariant.id;
   span = c.loop-i.invariant.span;
   len = simp length-set c.loop-i.invariant.len;
-  done = field_more c.is_droppable-droppable.result c.loop-i.i c.loop-i.node.parts.items _ c.rows-rows.result.now _ _ _ c.loop-i.invariant.done (omega arith) (omega arith) c.index_mut.ensures.value c.set_default.ensures;
+  done = field_more c.is_droppable-droppable.result c.loop-i.i c.loop-i.node.parts.items _ c.rows-rows.result.now _ _ _ c.loop-i.invariant.done (omega arith) (omega arith) c.index_mut.ensures.value c.in_ok-set_default.ensures;
 }
 
 pub returns : goal.returns

@@ -1,13 +1,14 @@
 use Rattle.oxt_tree.specs.View.{node_doc}
+use Rattle.oxt_options.specs.Options.{transform_view}
 use Rattle.oxt_transform.proofs.Steps.{passes_accepts, passes_lowers}
 use Rattle.oxt_transform.proofs.transform.transform_text.Goals as goal
 
 pub returns-clause-lowers : goal.returns-clause-lowers
 returns-clause-lowers c =
-    passes_lowers c.args.text.now (node_doc c.in-Ok.program.root) c.in-Ok.program.ids.next c.in-Ok.ensures.tree c.in_ok-bytes.bytes.items (node_doc c.lower_by_walk.new.program.root)
+    passes_lowers (transform_view c.args.options.now) c.args.text.now (node_doc c.in-Ok.program.root) c.in-Ok.program.ids.next c.in-Ok.ensures.tree c.in_ok-bytes.bytes.items (node_doc c.lower_by_walk.new.program.root)
     c.in_ok-lower_by_walk.ensures.passes c.in_ok-bytes.ensures.text
 
 pub returns-clause-accepted : goal.returns-clause-accepted
 returns-clause-accepted c =
-    passes_accepts c.args.text.now (node_doc c.in-Ok.program.root) c.in-Ok.program.ids.next c.in-Ok.ensures.tree (node_doc c.lower_by_walk.new.program.root)
+    passes_accepts (transform_view c.args.options.now) c.args.text.now (node_doc c.in-Ok.program.root) c.in-Ok.program.ids.next c.in-Ok.ensures.tree (node_doc c.lower_by_walk.new.program.root)
     c.in_ok-lower_by_walk.ensures.passes

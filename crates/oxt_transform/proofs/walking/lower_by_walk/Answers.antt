@@ -1,17 +1,19 @@
-use Rattle.oxt_check.specs.Refusals.{difference_in}
+-- The facts of the steps, put together.
+use Rattle.std.proofs.Common.{ap, ◌∙◌}
 use Rattle.oxt_item.specs.Entry.{entries}
-use Rattle.oxt_tree.specs.View.{node_doc}
-use Rattle.oxt_transform.proofs.Steps.{failed, walked}
+use Rattle.oxt_options.specs.Options.{transform_view}
+use Rattle.oxt_transform.proofs.Steps.{certified, refused_so}
 use Rattle.oxt_transform.proofs.walking.lower_by_walk.Goals as goal
+use Rattle.oxt_transform.specs.Faults.{refusal_in}
+use Rattle.oxt_transform.specs.Settings.{settings_view}
+use Rattle.oxt_tree.specs.View.{node_doc}
 
-pub returns-clause-passes : goal.returns-clause-passes
-returns-clause-passes c =
-    let judged = rw c.as_slice.ensures.value at c.in_ok-mismatch.ensures in
-    walked (node_doc c.args.program.now.root) (node_doc c.walk.new.program.root) (entries c.in_ok-before.before.items) c.in_ok-names.names c.is_script-was_script.result
-    c.in_ok-walk.ensures.built c.in_ok-walk.ensures.left c.in_ok-before.ensures c.in_ok-names.ensures c.is_script-was_script.ensures (rw c.in-None.is at judged)
+pub returns-in-Ok-certify-clause-passes : goal.returns-in-Ok-certify-clause-passes
+returns-in-Ok-certify-clause-passes c =
+    certified (transform_view c.args.options.now) c.args.program.now.ids.next (node_doc c.args.program.now.root) (node_doc c.rewrite.new.program.root) (entries c.as_slice.result.now) c.in-Ok-record_of.held.names (settings_view c.in-Ok-record_of.held.settings) c.in-Ok.tables.scoping c.in-Ok.tables.plan c.in-Ok-record_of.held.owners
+    c.in-Ok.ensures.accepted c.in-Ok.ensures.table c.in-Ok.ensures.plan (ap entries c.as_slice.ensures.value ∙ c.in-Ok-rewrite.ensures.words) c.in-Ok-rewrite.ensures.left c.in-Ok-record_of.ensures.names c.in-Ok-record_of.ensures.settings c.in-Ok-record_of.ensures.owners c.in-Ok-certify.ensures.passed
 
-pub returns-in-Some-clause-refused : goal.returns-in-Some-clause-refused
-returns-in-Some-clause-refused c =
-    let judged = rw c.as_slice.ensures.value at c.in_ok-mismatch.ensures in
-    failed (node_doc c.args.program.now.root) (node_doc c.walk.new.program.root) (entries c.in_ok-before.before.items) c.in_ok-names.names c.is_script-was_script.result
-    c.in_ok-walk.ensures.built c.in_ok-walk.ensures.left c.in_ok-before.ensures c.in_ok-names.ensures c.is_script-was_script.ensures (difference_in c.in-Some.mismatch) (rw c.in-Some.is at judged)
+pub returns-clause-refused : goal.returns-clause-refused
+returns-clause-refused c =
+    refused_so (transform_view c.args.options.now) c.args.program.now.ids.next (node_doc c.args.program.now.root) (node_doc c.rewrite.new.program.root) (entries c.as_slice.result.now) c.in-Ok-record_of.held.names (settings_view c.in-Ok-record_of.held.settings) c.in-Ok.tables.scoping c.in-Ok.tables.plan c.in-Ok-record_of.held.owners (refusal_in c.in-Err-certify.fault)
+    c.in-Ok.ensures.accepted c.in-Ok.ensures.table c.in-Ok.ensures.plan (ap entries c.as_slice.ensures.value ∙ c.in-Ok-rewrite.ensures.words) c.in-Ok-rewrite.ensures.left c.in-Ok-record_of.ensures.names c.in-Ok-record_of.ensures.settings c.in-Ok-record_of.ensures.owners c.in-Err-certify.ensures.failed

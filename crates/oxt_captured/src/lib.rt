@@ -1,0 +1,7 @@
+//! Names that would change their owner once erased declarations are gone.
+#![tactic(auto)]
+
+pub mod captured;
+mod outside;
+#[cfg(test)]
+mod tests;

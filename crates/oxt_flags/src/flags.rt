@@ -1,0 +1,40 @@
+//! The flags of the command line.
+ghost use Rattle.std.specs.Prelude.{◌≡◌, map};
+ghost use Rattle.oxt_flags.specs.Flags.{flags};
+ghost use Rattle.oxt_flags.specs.Views.{flag_view};
+
+/// A flag of the command line.
+#[derive(Clone, Copy)]
+pub struct Flag {
+    /// Its name, without the two hyphens.
+    pub name: &'static str,
+    /// Whether a value follows it.
+    pub takes_value: bool,
+}
+
+/// The function that makes an element.
+pub const JSX_PRAGMA: &str = "jsx-pragma";
+/// The function that makes a fragment.
+pub const JSX_PRAGMA_FRAG: &str = "jsx-pragma-frag";
+/// Only imports that say so themselves are imports of types.
+pub const ONLY_REMOVE_TYPE_IMPORTS: &str = "only-remove-type-imports";
+
+/// All flags.
+pub fn flags() -> &'static [Flag]
+    ensures { map flag_view result.now ≡ flags }
+{
+    &[
+        Flag {
+            name: JSX_PRAGMA,
+            takes_value: true,
+        },
+        Flag {
+            name: JSX_PRAGMA_FRAG,
+            takes_value: true,
+        },
+        Flag {
+            name: ONLY_REMOVE_TYPE_IMPORTS,
+            takes_value: false,
+        },
+    ]
+}

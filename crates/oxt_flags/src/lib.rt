@@ -1,0 +1,11 @@
+//! The words of the command line, as options.
+#![tactic(auto)]
+
+pub mod flags;
+mod matching;
+pub mod options;
+#[cfg(test)]
+mod tests;
+
+pub use flags::Flag;
+pub use options::options_of;

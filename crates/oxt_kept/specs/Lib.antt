@@ -1,0 +1,3 @@
+pub mod Jsx
+pub mod Kept
+pub mod Names

@@ -1,0 +1,8 @@
+//! The nodes that stand where they may not.
+#![tactic(auto)]
+
+pub mod misplaced;
+mod rules;
+mod seat;
+#[cfg(test)]
+mod tests;

@@ -1,0 +1,6 @@
+//! Where a node stands in a tree.
+#![tactic(auto)]
+
+pub mod place;
+#[cfg(test)]
+mod tests;
