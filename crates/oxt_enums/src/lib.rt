@@ -10,3 +10,5 @@ pub mod members;
 pub mod names;
 pub mod owners;
 pub mod tables;
+#[cfg(test)]
+mod tests;
