@@ -20,6 +20,10 @@ use Rattle.oxt_unbuilt.specs.Dropped.{is_droppable, is_dropped}
 abbrev pub opened : Doc → Doc
 opened d = if is_in category.Wrapper d then inner_expression d else d
 
+-- where something is assigned, only a wrapper around a name or a member is opened
+abbrev pub opened_target : Doc → Doc
+opened_target d = if is_in category.SimpleAssignmentTarget (inner_expression d) then opened d else d
+
 -- the fields by which a list knows what it drops
 abbrev pub marks : List (List ℕ)
 marks = codes "declare" ∷ codes "importKind" ∷ codes "exportKind" ∷ codes "value" ∷ []

@@ -5,7 +5,7 @@ ghost use Rattle.oxt_traverse.specs.Level.{IsAside, IsLevel};
 ghost use Rattle.oxt_tree.specs.View.{node_doc};
 
 use crate::fields::clear_types;
-use crate::opening::open_wrapper;
+use crate::opening::{open_target, open_wrapper};
 use crate::statements::{drop_elements, drop_erased};
 use oxt_ctx::context::TraverseCtx;
 use oxt_traverse::hook::Hook;
@@ -14,8 +14,9 @@ use oxt_tree::ids::OutOfMemory;
 use oxt_tree::tree::{Node, Part};
 
 /// The pass that erases what stands for nothing at run time: declarations and class elements of
-/// TypeScript alone, fields that only TypeScript has, and the wrappers around expressions. What is
-/// left of a tree without its types, it keeps. It puts nothing aside.
+/// TypeScript alone, fields that only TypeScript has, and the wrappers around expressions, but for those
+/// around targets that may not be assigned to. What is left of a tree without its types, it keeps.
+/// It puts nothing aside.
 #[derive(Clone, Copy, Debug)]
 pub struct TypeScriptAnnotations;
 
@@ -94,7 +95,7 @@ impl Traverse for TypeScriptAnnotations {
         node: &mut Node,
         _ctx: &mut TraverseCtx,
     ) -> Result<(), OutOfMemory> {
-        open_wrapper(node);
+        open_target(node);
         Ok(())
     }
 
@@ -103,7 +104,7 @@ impl Traverse for TypeScriptAnnotations {
         node: &mut Node,
         _ctx: &mut TraverseCtx,
     ) -> Result<(), OutOfMemory> {
-        open_wrapper(node);
+        open_target(node);
         Ok(())
     }
 

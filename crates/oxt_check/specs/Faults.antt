@@ -8,13 +8,13 @@ use Rattle.oxt_check.specs.declared.fault.Fault.TheVariants as fault
 use Rattle.oxt_kept.specs.Kept.{kept}
 use Rattle.oxt_misplaced.specs.Misplaced.{misplaced}
 use Rattle.oxt_misplaced.specs.declared.misplaced.MisplacedKind.{MisplacedKind}
-use Rattle.oxt_modules.specs.Retained.{is_definition_file}
 use Rattle.oxt_options.specs.Options.{TransformData}
 use Rattle.oxt_place.specs.Place.{place_of}
 use Rattle.oxt_plan.specs.Facts.{Facts, no_facts}
 use Rattle.oxt_scoping.specs.Scoped.{Scoped}
 use Rattle.oxt_unbuilt.specs.Unbuilt.{unbuilt}
 use Rattle.oxt_tree.specs.Doc.{Doc}
+use Rattle.oxt_tree.specs.Syntax.{is_definition_file}
 use Rattle.oxt_tree.specs.Names.{name_bytes}
 
 -- the refusal that a fault is; none for want of memory

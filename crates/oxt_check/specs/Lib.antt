@@ -1,2 +1,3 @@
+pub mod Diagnostics
 pub mod Faults
 pub mod Refusals

@@ -3,7 +3,6 @@ ghost use Rattle.std.specs.Prelude.{◌≡◌, None, Some, OnOk, IfOk, IfErr};
 ghost use Rattle.oxt_captured.specs.Captured.{capture_view};
 ghost use Rattle.oxt_check.specs.Faults.{IsFaultOf, IsPlaceFault, captured_refusal, facts_of, first_fault, misplaced_refusal, place_fault, place_text, refusal_in};
 ghost use Rattle.oxt_misplaced.specs.Views.{misplaced_view};
-ghost use Rattle.oxt_modules.specs.Retained.{is_definition_file};
 ghost use Rattle.oxt_options.specs.Options.{transform_view};
 ghost use Rattle.oxt_plan.specs.Facts.{Answers};
 ghost use Rattle.oxt_tree.specs.Names.{name_bytes};
@@ -48,20 +47,13 @@ pub fn check(
     if let Some(kind) = first_unbuilt(alloc, &program.root)? {
         return Err(Fault::Unbuilt { kind });
     }
-    if !is_definition_file(&program.root) {
+    if !program.root.is_definition_file() {
         match check_places(alloc, &program.root, scoping) {
             Ok(()) => {}
             Err(fault) => return Err(fault),
         }
     }
     Ok(plan_of(alloc, &program.root, scoping, options)?)
-}
-
-/// Whether the program is a file of definitions.
-fn is_definition_file(program: &Node) -> bool
-    ensures { result ≡ is_definition_file (node_doc program.now) }
-{
-    program.holds_text("lang", "dts")
 }
 
 /// Finds the first misplaced node, and else the first captured name.

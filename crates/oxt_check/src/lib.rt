@@ -2,11 +2,13 @@
 #![tactic(auto)]
 
 pub mod check_program;
+pub mod diagnose;
 pub mod fault;
 #[cfg(test)]
 mod tests;
 
 pub use check_program::check;
+pub use diagnose::diagnostics_of;
 pub use fault::{Fault, Mismatch, MisplacedKind};
 pub use oxt_options::{
     DecoratorOptions, Module, RewriteExtensionsMode, TransformOptions, TypeScriptOptions,

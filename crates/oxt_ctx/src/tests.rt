@@ -1,5 +1,8 @@
 //! Contexts of small walks.
-ghost use Rattle.std.specs.Prelude.{◌≡◌, ◌<◌, IfOk, length};
+//!
+//! A test owns its context, and functions that borrow it say what holds: so no context is dropped where
+//! memory runs out, which is what costs in a proof.
+ghost use Rattle.std.specs.Prelude.{◌≡◌, ◌<◌, IfOk, IfSome, length};
 ghost use Rattle.oxt_stores.specs.Frame.{frames};
 
 use crate::ancestor::AncestorRecord;
@@ -15,21 +18,29 @@ use oxt_plan::plan::Plan;
 use oxt_scoping::scoping::Scoping;
 use oxt_stores::bound::BoundIdentifier;
 use oxt_symbol::flags::{ReferenceFlags, ScopeFlags, SymbolFlags};
+use oxt_symbol::ids::SymbolId;
 use oxt_table::kind::Kind;
 use oxt_tree::ids::{NodeId, NodeIds, OutOfMemory, Span};
 use oxt_tree::name::Name;
 use oxt_tree::tree::{Node, Part};
 use oxt_uid::uid::UidNames;
 use std::alloc::Global;
-use std::test::Fail;
+use std::process::Abort;
 
-/// The context of a program whose node 2 opens scope 1, in one list of statements.
-fn context(alloc: Global) -> Result<TraverseCtx, OutOfMemory>
-    ensures { IfOk result (λ made. length (frames made.declarations) ≡ 1) }
-{
-    let mut scoping = Scoping::new(alloc, ScopeFlags::Top, UidNames::new(alloc))?;
+/// The table of a program whose node 2 opens scope 1.
+fn table(rt: &impl Abort, alloc: Global) -> Scoping {
+    let made = Scoping::new(alloc, ScopeFlags::Top, UidNames::new(alloc));
+    let mut scoping = made.expect(rt, "memory");
     let root = scoping.root_scope_id();
-    scoping.open_scope(NodeId(2), root, ScopeFlags::StrictMode)?;
+    let opened = scoping.open_scope(NodeId(2), root, ScopeFlags::StrictMode);
+    opened.expect(rt, "memory");
+    scoping
+}
+
+/// A context of that program, in one list of statements.
+fn context(rt: &impl Abort, alloc: Global) -> TraverseCtx
+    ensures { length (frames result.declarations) ≡ 1 }
+{
     let state = TransformState {
         module: Module::Preserve,
         set_public_class_fields: false,
@@ -37,9 +48,10 @@ fn context(alloc: Global) -> Result<TraverseCtx, OutOfMemory>
         is_class_properties_plugin_enabled: false,
     };
     let ids = NodeIds { next: 10 };
-    let mut ctx = TraverseCtx::new(alloc, scoping, Plan::empty(alloc), state, ids);
-    ctx.var_declarations.record_entering_statements()?;
-    Ok(ctx)
+    let mut ctx = TraverseCtx::new(alloc, table(rt, alloc), Plan::empty(alloc), state, ids);
+    let entered = ctx.var_declarations.record_entering_statements();
+    entered.expect(rt, "memory");
+    ctx
 }
 
 fn node(kind: Kind, parts: Vec<Part>) -> Node {
@@ -144,11 +156,11 @@ fn knows_nodes(alloc: Global, ctx: &mut TraverseCtx) -> Result<bool, OutOfMemory
 }
 
 #[test]
-fn nodes_around_are_known(rt: HostRuntime) -> Result<(), Fail> {
-    let mut ctx = context(rt.alloc())?;
-    let holds = knows_nodes(rt.alloc(), &mut ctx)?;
+fn nodes_around_are_known(rt: HostRuntime) {
+    let mut ctx = context(&rt, rt.alloc());
+    let holds = knows_nodes(rt.alloc(), &mut ctx).expect(&rt, "memory");
     assert!(rt; holds);
-    Ok(())
+    drop(ctx);
 }
 
 /// Whether a diagnostic is kept.
@@ -162,11 +174,11 @@ fn keeps_diagnostic(ctx: &mut TraverseCtx) -> Result<bool, OutOfMemory> {
 }
 
 #[test]
-fn diagnostics_are_kept(rt: HostRuntime) -> Result<(), Fail> {
-    let mut ctx = context(rt.alloc())?;
-    let holds = keeps_diagnostic(&mut ctx)?;
+fn diagnostics_are_kept(rt: HostRuntime) {
+    let mut ctx = context(&rt, rt.alloc());
+    let holds = keeps_diagnostic(&mut ctx).expect(&rt, "memory");
     assert!(rt; holds);
-    Ok(())
+    drop(ctx);
 }
 
 // ---- made variables
@@ -225,11 +237,11 @@ fn makes_variables(alloc: Global, ctx: &mut TraverseCtx) -> Result<bool, OutOfMe
 }
 
 #[test]
-fn three_variables_are_made_in_one_list(rt: HostRuntime) -> Result<(), Fail> {
-    let mut ctx = context(rt.alloc())?;
-    let holds = makes_variables(rt.alloc(), &mut ctx)?;
+fn three_variables_are_made_in_one_list(rt: HostRuntime) {
+    let mut ctx = context(&rt, rt.alloc());
+    let holds = makes_variables(rt.alloc(), &mut ctx).expect(&rt, "memory");
     assert!(rt; holds);
-    Ok(())
+    drop(ctx);
 }
 
 // ---- uses of names
@@ -249,28 +261,74 @@ fn bound_name(alloc: Global, ctx: &mut TraverseCtx) -> Result<BoundIdentifier, O
     ctx.generate_binding(&name, scope, SymbolFlags::BlockScopedVariable)
 }
 
+/// Whether an expression that reads the name has its spelling.
+fn has_expression(bound: &BoundIdentifier, ctx: &mut TraverseCtx) -> Result<bool, OutOfMemory>
+    requires { bound.now.symbol_id.0 < length ctx.old.scoping.symbols }
+    ensures { length ctx.new.scoping.symbols ≡ length ctx.old.scoping.symbols }
+{
+    let expression = bound.create_read_expression(ctx)?;
+    Ok(is_name(&expression, Kind::IdentifierReference, "_x"))
+}
+
+/// Whether a reference that reads the name has its spelling.
+fn has_reference(bound: &BoundIdentifier, ctx: &mut TraverseCtx) -> Result<bool, OutOfMemory>
+    requires { bound.now.symbol_id.0 < length ctx.old.scoping.symbols }
+    ensures { length ctx.new.scoping.symbols ≡ length ctx.old.scoping.symbols }
+{
+    let reference = bound.create_read_reference(ctx)?;
+    Ok(is_name(&reference, Kind::IdentifierReference, "_x"))
+}
+
+/// Whether a target that writes the name has its spelling.
+fn has_target(bound: &BoundIdentifier, ctx: &mut TraverseCtx) -> Result<bool, OutOfMemory>
+    requires { bound.now.symbol_id.0 < length ctx.old.scoping.symbols }
+{
+    let target = bound.create_write_target(ctx)?;
+    Ok(is_name(&target, Kind::IdentifierReference, "_x"))
+}
+
 /// Whether the nodes that use the name have its spelling.
 fn has_uses(bound: &BoundIdentifier, ctx: &mut TraverseCtx) -> Result<bool, OutOfMemory>
     requires { bound.now.symbol_id.0 < length ctx.old.scoping.symbols }
 {
-    let expression = bound.create_read_expression(ctx)?;
-    let reference = bound.create_read_reference(ctx)?;
-    let target = bound.create_write_target(ctx)?;
-    Ok(
-        is_name(&expression, Kind::IdentifierReference, "_x")
-            && is_name(&reference, Kind::IdentifierReference, "_x")
-            && is_name(&target, Kind::IdentifierReference, "_x"),
-    )
+    let is_read = has_expression(bound, ctx)?;
+    let is_referred_to = has_reference(bound, ctx)?;
+    let is_written = has_target(bound, ctx)?;
+    Ok(is_read && is_referred_to && is_written)
+}
+
+/// Whether a pattern that binds the name has its spelling.
+fn has_pattern(bound: &BoundIdentifier, ctx: &mut TraverseCtx) -> Result<bool, OutOfMemory> {
+    let pattern = bound.create_binding_pattern(ctx)?;
+    Ok(is_name(&pattern, Kind::BindingIdentifier, "_x"))
+}
+
+/// Whether an identifier that binds the name has its spelling.
+fn has_identifier(bound: &BoundIdentifier, ctx: &mut TraverseCtx) -> Result<bool, OutOfMemory> {
+    let identifier = bound.create_binding_identifier(ctx)?;
+    Ok(is_name(&identifier, Kind::BindingIdentifier, "_x"))
 }
 
 /// Whether the nodes that bind the name have its spelling.
 fn has_bindings(bound: &BoundIdentifier, ctx: &mut TraverseCtx) -> Result<bool, OutOfMemory> {
-    let pattern = bound.create_binding_pattern(ctx)?;
-    let identifier = bound.create_binding_identifier(ctx)?;
-    Ok(
-        is_name(&pattern, Kind::BindingIdentifier, "_x")
-            && is_name(&identifier, Kind::BindingIdentifier, "_x"),
-    )
+    let is_pattern = has_pattern(bound, ctx)?;
+    let is_identifier = has_identifier(bound, ctx)?;
+    Ok(is_pattern && is_identifier)
+}
+
+/// Whether what was read of a use is that name, and can be used again.
+fn is_used_again(read: &MaybeBoundIdentifier, ctx: &mut TraverseCtx) -> Result<bool, OutOfMemory>
+    requires { IfSome read.now.symbol_id (λ meant. meant.0 < length ctx.old.scoping.symbols) }
+{
+    let again = read.create_expression(ReferenceFlags::Write, ctx)?;
+    Ok(read.name.as_str() == "_x" && is_name(&again, Kind::IdentifierReference, "_x"))
+}
+
+/// Whether a use is read as that symbol, and can be used again.
+fn is_read_as(first: &Node, symbol: SymbolId, ctx: &mut TraverseCtx) -> Result<bool, OutOfMemory> {
+    let read = MaybeBoundIdentifier::from_identifier_reference(first, ctx)?;
+    let is_again = is_used_again(&read, ctx)?;
+    Ok(is_again && read.symbol_id == Some(symbol))
 }
 
 /// Whether a use of the name is read as that name with its symbol, and can be used again.
@@ -278,20 +336,19 @@ fn is_read_back(bound: &BoundIdentifier, ctx: &mut TraverseCtx) -> Result<bool, 
     requires { bound.now.symbol_id.0 < length ctx.old.scoping.symbols }
 {
     let first = ctx.create_ident_expr(&bound.name, Some(bound.symbol_id), ReferenceFlags::Read)?;
-    let read = MaybeBoundIdentifier::from_identifier_reference(&first, ctx)?;
-    let again = read.create_expression(ReferenceFlags::Write, ctx)?;
-    Ok(
-        read.symbol_id == Some(bound.symbol_id)
-            && read.name.as_str() == "_x"
-            && is_name(&again, Kind::IdentifierReference, "_x"),
-    )
+    is_read_as(&first, bound.symbol_id, ctx)
+}
+
+/// Whether the name is read without a symbol.
+fn is_read_as_free(free: &Node, ctx: &TraverseCtx) -> Result<bool, OutOfMemory> {
+    let read = MaybeBoundIdentifier::from_identifier_reference(free, ctx)?;
+    Ok(read.symbol_id.is_none() && read.name.as_str() == "babelHelpers")
 }
 
 /// Whether a use of a free name is read as that name, without a symbol.
 fn is_free(ctx: &mut TraverseCtx) -> Result<bool, OutOfMemory> {
     let free = ctx.create_unbound_ident_expr("babelHelpers", ReferenceFlags::Read)?;
-    let read = MaybeBoundIdentifier::from_identifier_reference(&free, ctx)?;
-    Ok(read.symbol_id.is_none() && read.name.as_str() == "babelHelpers")
+    is_read_as_free(&free, ctx)
 }
 
 /// Whether a made name is `_x`, and is used by that spelling.
@@ -300,75 +357,115 @@ fn uses_made_name(ctx: &mut TraverseCtx) -> Result<bool, OutOfMemory> {
     Ok(bound.name.as_str() == "_x" && has_uses(&bound, ctx)?)
 }
 
+/// Whether a made name is bound by its spelling.
+fn binds_made_name(ctx: &mut TraverseCtx) -> Result<bool, OutOfMemory> {
+    let bound = made_name(ctx)?;
+    has_bindings(&bound, ctx)
+}
+
+/// Whether a name of one's own is bound by its spelling.
+fn binds_own_name(alloc: Global, ctx: &mut TraverseCtx) -> Result<bool, OutOfMemory> {
+    Ok(bound_name(alloc, ctx)?.name.as_str() == "y")
+}
+
 /// Whether a made name is bound by its spelling, and a name of one's own too.
 fn binds_names(alloc: Global, ctx: &mut TraverseCtx) -> Result<bool, OutOfMemory> {
+    let is_made = binds_made_name(ctx)?;
+    let is_own = binds_own_name(alloc, ctx)?;
+    Ok(is_made && is_own)
+}
+
+/// Whether a use of a made name is read back.
+fn reads_made_name_back(ctx: &mut TraverseCtx) -> Result<bool, OutOfMemory> {
     let bound = made_name(ctx)?;
-    Ok(has_bindings(&bound, ctx)? && bound_name(alloc, ctx)?.name.as_str() == "y")
+    is_read_back(&bound, ctx)
 }
 
 /// Whether uses of names are read as what they are.
 fn reads_uses_back(ctx: &mut TraverseCtx) -> Result<bool, OutOfMemory> {
-    let bound = made_name(ctx)?;
-    Ok(is_read_back(&bound, ctx)? && is_free(ctx)?)
+    let is_made = reads_made_name_back(ctx)?;
+    let is_free = is_free(ctx)?;
+    Ok(is_made && is_free)
 }
 
 #[test]
-fn made_names_are_used(rt: HostRuntime) -> Result<(), Fail> {
-    let mut ctx = context(rt.alloc())?;
-    let holds = uses_made_name(&mut ctx)?;
+fn made_names_are_used(rt: HostRuntime) {
+    let mut ctx = context(&rt, rt.alloc());
+    let holds = uses_made_name(&mut ctx).expect(&rt, "memory");
     assert!(rt; holds);
-    Ok(())
+    drop(ctx);
 }
 
 #[test]
-fn made_names_are_bound(rt: HostRuntime) -> Result<(), Fail> {
-    let mut ctx = context(rt.alloc())?;
-    let holds = binds_names(rt.alloc(), &mut ctx)?;
+fn made_names_are_bound(rt: HostRuntime) {
+    let mut ctx = context(&rt, rt.alloc());
+    let holds = binds_names(rt.alloc(), &mut ctx).expect(&rt, "memory");
     assert!(rt; holds);
-    Ok(())
+    drop(ctx);
 }
 
 #[test]
-fn uses_are_read_back(rt: HostRuntime) -> Result<(), Fail> {
-    let mut ctx = context(rt.alloc())?;
-    let holds = reads_uses_back(&mut ctx)?;
+fn uses_are_read_back(rt: HostRuntime) {
+    let mut ctx = context(&rt, rt.alloc());
+    let holds = reads_uses_back(&mut ctx).expect(&rt, "memory");
     assert!(rt; holds);
-    Ok(())
+    drop(ctx);
 }
 
 // ---- texts
 
 /// Whether the text of the expression is that one.
-fn has_text(alloc: Global, node: &Node, text: &str) -> Result<bool, OutOfMemory> {
+fn is_text(alloc: Global, node: &Node, text: &str) -> Result<bool, OutOfMemory> {
     Ok(get_var_name_from_node(alloc, node)?.as_str() == text)
+}
+
+/// Whether the text of that expression is that one.
+fn has_text(alloc: Global, node: Node, text: &str) -> Result<bool, OutOfMemory> {
+    is_text(alloc, &node, text)
+}
+
+/// `a.b()`.
+fn call(alloc: Global) -> Result<Node, OutOfMemory> {
+    around(alloc, Kind::CallExpression, member(alloc)?)
+}
+
+/// `new (a.b())`.
+fn made(alloc: Global) -> Result<Node, OutOfMemory> {
+    let inside = around(alloc, Kind::ParenthesizedExpression, call(alloc)?)?;
+    around(alloc, Kind::NewExpression, inside)
+}
+
+/// `new (a.b())!`.
+fn wrapped(alloc: Global) -> Result<Node, OutOfMemory> {
+    around(alloc, Kind::TSNonNullExpression, made(alloc)?)
+}
+
+/// Whether a name and what stands around a member have their texts.
+fn have_texts(alloc: Global) -> Result<bool, OutOfMemory> {
+    let name = with_text(alloc, Kind::IdentifierReference, "_a1")?;
+    let is_name = has_text(alloc, name, "_a1")?;
+    let is_call = has_text(alloc, call(alloc)?, "a$b")?;
+    let is_made = has_text(alloc, made(alloc)?, "a$b")?;
+    let is_wrapped = has_text(alloc, wrapped(alloc)?, "ref")?;
+    Ok(is_name && is_call && is_made && is_wrapped)
+}
+
+#[test]
+fn expressions_have_texts(rt: HostRuntime) {
+    let holds = have_texts(rt.alloc()).expect(&rt, "memory");
+    assert!(rt; holds);
 }
 
 /// Whether a string with that value has that text.
 fn string_has_text(alloc: Global, value: &str, text: &str) -> Result<bool, OutOfMemory> {
-    has_text(alloc, &with_text(alloc, Kind::StringLiteral, value)?, text)
+    has_text(alloc, with_text(alloc, Kind::StringLiteral, value)?, text)
 }
 
 #[test]
-fn expressions_have_texts(rt: HostRuntime) -> Result<(), Fail> {
+fn strings_have_texts(rt: HostRuntime) {
     let alloc = rt.alloc();
-    let name = with_text(alloc, Kind::IdentifierReference, "_a1")?;
-    assert!(rt; has_text(alloc, &name, "_a1")?);
-    let call = around(alloc, Kind::CallExpression, member(alloc)?)?;
-    assert!(rt; has_text(alloc, &call, "a$b")?);
-    let inside = around(alloc, Kind::ParenthesizedExpression, call)?;
-    let made = around(alloc, Kind::NewExpression, inside)?;
-    assert!(rt; has_text(alloc, &made, "a$b")?);
-    let wrapped = around(alloc, Kind::TSNonNullExpression, made)?;
-    assert!(rt; has_text(alloc, &wrapped, "ref")?);
-    Ok(())
-}
-
-#[test]
-fn strings_have_texts(rt: HostRuntime) -> Result<(), Fail> {
-    let alloc = rt.alloc();
-    assert!(rt; string_has_text(alloc, "x$_1", "x$_1")?);
-    assert!(rt; string_has_text(alloc, "1x", "ref")?);
-    assert!(rt; string_has_text(alloc, "a b", "ref")?);
-    assert!(rt; string_has_text(alloc, "", "ref")?);
-    Ok(())
+    assert!(rt; string_has_text(alloc, "x$_1", "x$_1").expect(&rt, "memory"));
+    assert!(rt; string_has_text(alloc, "1x", "ref").expect(&rt, "memory"));
+    assert!(rt; string_has_text(alloc, "a b", "ref").expect(&rt, "memory"));
+    assert!(rt; string_has_text(alloc, "", "ref").expect(&rt, "memory"));
 }

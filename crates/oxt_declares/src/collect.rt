@@ -2,7 +2,6 @@
 ghost use Rattle.std.specs.Prelude.{◌≡◌, ◌++◌, IfOk, OnOk, codes, if◌then◌else◌};
 ghost use Rattle.oxt_tree.specs.Bound.{bound_names};
 ghost use Rattle.oxt_tree.specs.Fields.{elements, field_of, is_text, named};
-ghost use Rattle.oxt_tree.specs.Syntax.{is_type_only};
 ghost use Rattle.oxt_tree.specs.Doc.{nil};
 ghost use Rattle.oxt_tree.specs.View.{doc_or_nil, docs_in, node_doc, part_doc};
 ghost use Rattle.oxt_declares.specs.Bare.{bare_views};
@@ -227,16 +226,9 @@ fn push_in_block<'a>(
         Role::Enum => push_enum(alloc, node, out),
         Role::Namespace => declare_own(alloc, node, namespace_sort(node), out),
         Role::ImportEquals => push_alias(alloc, node, out),
-        Role::Import => push_imports(alloc, is_type_only(node), node.list("specifiers"), out),
+        Role::Import => push_imports(alloc, node.is_type_only(), node.list("specifiers"), out),
         _ => Ok(()),
     }
-}
-
-/// Whether it is an import or an export of types alone.
-pub fn is_type_only(node: &Node) -> bool
-    ensures { result ≡ is_type_only node.now.kind (docs_in node.now.parts.items) }
-{
-    node.holds_text("importKind", "type") || node.holds_text("exportKind", "type")
 }
 
 /// What a declaration of variables declares them as.
@@ -372,7 +364,7 @@ fn push_alias<'a>(
     ensures { OnOk result (declared_views out.new.items
         ≡ declared_views out.old.items ++ alias_of_import node.now.kind (docs_in node.now.parts.items)) }
 {
-    declare_own(alloc, node, import_sort(is_type_only(node)), out)
+    declare_own(alloc, node, import_sort(node.is_type_only()), out)
 }
 
 /// Appends the names that an import declares, all of them types alone or each by its own word.

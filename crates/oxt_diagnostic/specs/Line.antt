@@ -1,8 +1,9 @@
 -- The line that is printed for a diagnostic.
-use Rattle.std.specs.Prelude.{ℕ, List, ◌++◌, codes, Option, None, Some}
+use Rattle.std.specs.Prelude.{ℕ, List, [], ◌∷◌, ◌++◌, codes, Option, None, Some}
 use Rattle.std.specs.Fmt.{decimal}
 use Rattle.oxt_tree.specs.declared.ids.Span.{Span}
 use Rattle.oxt_diagnostic.specs.declared.diagnostic.DiagnosticKind.{DiagnosticKind}
+use Rattle.oxt_diagnostic.specs.declared.diagnostic.OxcDiagnostic.{OxcDiagnostic}
 use Rattle.oxt_diagnostic.specs.Texts.{text_of}
 
 -- the text, or a dash where there is none
@@ -18,3 +19,8 @@ place_of (Some s) = decimal s.start ++ codes ".." ++ decimal s.end
 -- the code, the place and the message, with a space between them, and a line feed
 abbrev pub line_of : DiagnosticKind → Option Span → List ℕ
 line_of k s = or_dash (text_of k).code ++ codes " " ++ place_of s ++ codes " " ++ (text_of k).message ++ codes "\n"
+
+-- the lines of diagnostics, one after another
+abbrev pub lines_of : List OxcDiagnostic → List ℕ
+lines_of [] = []
+lines_of (d ∷ ds) = line_of d.kind d.span ++ lines_of ds

@@ -3,5 +3,6 @@
 #![tactic(auto)]
 
 pub mod diagnostic;
+pub mod lines;
 #[cfg(test)]
 mod tests;

@@ -1,6 +1,7 @@
 //! The texts, as they are to be printed.
 
 use crate::diagnostic::{DiagnosticKind, OxcDiagnostic};
+use crate::lines::append_lines;
 use oxt_tree::ids::Span;
 use std::test::Fail;
 
@@ -79,6 +80,28 @@ fn a_target_has_neither(rt: HostRuntime) -> Result<(), Fail> {
     assert_eq!(rt;
         line.as_str(),
         "- - Cannot strip out typescript syntax if SimpleAssignmentTarget is not an IdentifierReference or MemberExpression\n"
+    );
+    Ok(())
+}
+
+#[test]
+fn lines_stand_behind_a_text_in_order(rt: HostRuntime) -> Result<(), Fail> {
+    let alloc = rt.alloc();
+    let found = [
+        OxcDiagnostic {
+            kind: DiagnosticKind::ExportAssignmentInEsm,
+            span: None,
+        },
+        OxcDiagnostic {
+            kind: DiagnosticKind::AmbientModuleNested,
+            span: None,
+        },
+    ];
+    let mut text = b"{}\n".to_vec(alloc)?;
+    append_lines(alloc, found.as_slice(), &mut text)?;
+    assert_eq!(rt;
+        text.as_slice(),
+        b"{}\nTS1203 - Export assignment cannot be used when targeting ECMAScript modules.\n- - Ambient modules cannot be nested in other modules or namespaces.\n".as_slice()
     );
     Ok(())
 }

@@ -1,3 +1,4 @@
 pub mod Moved
 pub mod Symbols
 pub mod Tables
+pub mod Tally

@@ -1,16 +1,18 @@
 -- The first name that moved.
-use Rattle.std.proofs.Common.{◌≡◌, ◌∙◌, refl, sym, ap, ℕ, suc, ◌+◌, List, [], ◌∷◌, take, arith, Bool, true, false, not, cond, Option, Some, None, true≢false}
+use Rattle.std.proofs.Common.{◌≡◌, ◌∙◌, refl, sym, ap, ℕ, suc, ◌+◌, List, [], ◌∷◌, take, arith, Bool, true, false, not, cond, ◌||◌, ◌⊎◌, inl, inr, Option, Some, None, true≢false}
 use Rattle.std.proofs.lemmas.Bool.{eqb-true, eq-eqb}
 use Rattle.std.proofs.lemmas.Iterator.Adapters.{position_from-zero}
 use Rattle.std.specs.List.{position_from}
 use Rattle.std.specs.Map.{lookup}
 use Rattle.std.specs.Option.{option_eq}
 use Rattle.std.specs.Prelude.{IsSomeAnd, nat_eq, position, slice_get}
-use Rattle.oxt_hygiene.specs.Keeps.{IsFirstMoved, IsTableOf, KeepsOwner, first_moved, keeps_owner}
+use Rattle.oxt_hygiene.specs.Keeps.{HasOwner, IsFirstMoved, IsMoved, IsTableOf, KeepsOwner, first_moved, has_owner, is_type_use, keeps_owner}
 use Rattle.oxt_hygiene.specs.Left.{OwnerList}
 use Rattle.oxt_scope.specs.Owners.{Owned}
 use Rattle.oxt_scope.specs.OwnedViews.{owned_view, owned_views}
 use Rattle.oxt_scope.specs.declared.owners.OwnedName.{OwnedName}
+use Rattle.oxt_scope.specs.declared.usage.Usage.{Usage}
+use Rattle.oxt_scope.specs.declared.usage.Usage.TheVariants as usage
 use Rattle.oxt_scoping.specs.Scoped.{Each}
 
 pub each_so : {A : Type 0} (P Q : A → Type 0) (xs : List A) → ((x : A) → P x → Q x) → Each P xs → Each Q xs
@@ -74,27 +76,53 @@ owner_same (Some x) = eq-eqb x x refl
 other_entry : (a : Option (Option ℕ)) (o : Option ℕ) → a ≡ Some o → option_eq (option_eq nat_eq) a (Some o) ≡ true
 other_entry a o e = rw e (owner_same o)
 
-fails_not : (b : Bool) → not b ≡ false → b ≡ true
-fails_not true h = refl
-fails_not false h = absurd (true≢false h)
+-- ---- uses in types
 
-passes_not : (b : Bool) → not b ≡ true → b ≡ true → ⊥
-passes_not true h g = absurd (true≢false (sym h))
-passes_not false h g = absurd (true≢false (sym g))
+type_use : (u : Usage) → is_type_use u ≡ true → u ≡ usage.Type
+type_use usage.Type h = refl
+type_use usage.Read h = absurd (true≢false (sym h))
+type_use usage.Write h = absurd (true≢false (sym h))
+type_use usage.ReadWrite h = absurd (true≢false (sym h))
 
--- the two lists say the same of the name
+use_type : (u : Usage) → u ≡ usage.Type → is_type_use u ≡ true
+use_type u e = ap is_type_use e
+
+-- What does not fail is so, by one of both tests.
+one_holds : {A B : Type 0} (a b : Bool) → (a ≡ true → A) → (b ≡ true → B) → not (a || b) ≡ false → A ⊎ B
+one_holds true b f g h = inl (f refl)
+one_holds false true f g h = inr (g refl)
+one_holds false false f g h = absurd (true≢false h)
+
+none_holds : (a b : Bool) → not (a || b) ≡ true → (a ≡ true → ⊥) × (b ≡ true → ⊥)
+none_holds true b h = absurd (true≢false (sym h))
+none_holds false true h = absurd (true≢false (sym h))
+none_holds false false h = (λ e. true≢false (sym e), λ e. true≢false (sym e))
+
+-- ---- the two lists say the same of the name
+
+has_so : (es ls : OwnerList) (n : Owned) → IsTableOf es ls → has_owner es n ≡ true → HasOwner ls n
+has_so es ls n t h = sym (t.same n.node) ∙ same_entry (lookup (nat_eq n.node) es) n.owner h
+
+so_has : (es ls : OwnerList) (n : Owned) → IsTableOf es ls → HasOwner ls n → has_owner es n ≡ true
+so_has es ls n t h = other_entry (lookup (nat_eq n.node) es) n.owner (t.same n.node ∙ h)
+
 kept : (es ls : OwnerList) (n : Owned) → IsTableOf es ls → not (keeps_owner es n) ≡ false → KeepsOwner ls n
-kept es ls n t h = sym (t.same n.node) ∙ same_entry (lookup (nat_eq n.node) es) n.owner (fails_not (keeps_owner es n) h)
+kept es ls n t h = one_holds (is_type_use n.usage) (has_owner es n) (type_use n.usage) (has_so es ls n t) h
 
-moved : (es ls : OwnerList) (n : Owned) → IsTableOf es ls → not (keeps_owner es n) ≡ true → KeepsOwner ls n → ⊥
-moved es ls n t h k = passes_not (keeps_owner es n) h (other_entry (lookup (nat_eq n.node) es) n.owner (t.same n.node ∙ k))
+moved : (es ls : OwnerList) (n : Owned) → IsTableOf es ls → not (keeps_owner es n) ≡ true → IsMoved ls n
+moved es ls n t h =
+    let none = none_holds (is_type_use n.usage) (has_owner es n) h in
+    record {
+      in_value = λ e. none.0 (use_type n.usage e);
+      another = λ k. none.1 (so_has es ls n t k);
+    }
 
 pub none_moved : (es ls : OwnerList) (ns : List Owned) → IsTableOf es ls → first_moved es ns ≡ None → Each (KeepsOwner ls) ns
 none_moved es ls ns t h =
     let p = λ (n : Owned). not (keeps_owner es n) in
     each_so (Fails p) (KeepsOwner ls) ns (λ n. kept es ls n t) (none_passes p ns h)
 
-so_moved : (es ls : OwnerList) (o : Option Owned) → IsTableOf es ls → IsSomeAnd o (λ n. not (keeps_owner es n) ≡ true) → IsSomeAnd o (λ n. ¬ (KeepsOwner ls n))
+so_moved : (es ls : OwnerList) (o : Option Owned) → IsTableOf es ls → IsSomeAnd o (λ n. not (keeps_owner es n) ≡ true) → IsSomeAnd o (IsMoved ls)
 so_moved es ls None t h = h
 so_moved es ls (Some n) t h = moved es ls n t h
 

@@ -1,8 +1,8 @@
 //! What is left of the owner of a name of the source.
-ghost use Rattle.std.specs.Prelude.{◌≡◌, IfOk, None, OnOk, Some, if◌then◌else◌, map, nat_eq, ℕ};
+ghost use Rattle.std.specs.Prelude.{◌≡◌, IfOk, OnOk, Some, if◌then◌else◌, nat_eq, ℕ};
 ghost use Rattle.std.specs.Map.{lookup};
 ghost use Rattle.oxt_hygiene.specs.Keeps.{IsTableOf};
-ghost use Rattle.oxt_hygiene.specs.Left.{emits, is_emitted, is_left, left_owner, left_owners};
+ghost use Rattle.oxt_hygiene.specs.Left.{is_emitted, is_left, left_from, left_owner};
 ghost use Rattle.oxt_scope.specs.OwnedViews.{owned_views};
 ghost use Rattle.oxt_scope.specs.Stack.{number_at};
 ghost use Rattle.oxt_scoping.specs.Scoped.{live_at};
@@ -14,8 +14,8 @@ use oxt_symbol::ids::{ReferenceId, SymbolId};
 use oxt_tree::ids::{NodeId, OutOfMemory};
 use std::alloc::Global;
 
-/// What is left of the owners of these names, of each number the first, where those symbols emit
-/// code.
+/// What is left of the owners of these names, of each number the first, where `emitting` says of each
+/// symbol whether it emits code.
 #[tactic(auto, using(crate::proofs::Tables::left_steps))]
 pub fn left_owners(
     alloc: Global,
@@ -23,8 +23,7 @@ pub fn left_owners(
     emitting: &[bool],
     names: &[OwnedName],
 ) -> Result<IndexMap<u64, Option<u64>>, OutOfMemory>
-    requires { emitting.now ≡ map emits scoping.now.symbols }
-    ensures { IfOk result (λ left. IsTableOf left.entries (left_owners scoping.now (owned_views names.now))) }
+    ensures { IfOk result (λ left. IsTableOf left.entries (left_from emitting.now scoping.now.references 0 (owned_views names.now))) }
 {
     let mut left = IndexMap::new(alloc);
     let mut i = names.len();
@@ -45,9 +44,8 @@ fn put_left(
     name: &OwnedName,
     left: &mut IndexMap<u64, Option<u64>>,
 ) -> Result<(), OutOfMemory>
-    requires { emitting.now ≡ map emits scoping.now.symbols }
     ensures { OnOk result ((n : ℕ) → lookup (nat_eq n) left.new.entries
-        ≡ (if nat_eq n name.now.node.0 then Some (left_owner scoping.now place (number_at name.now.owner)) else lookup (nat_eq n) left.old.entries)) }
+        ≡ (if nat_eq n name.now.node.0 then Some (left_owner emitting.now scoping.now.references place (number_at name.now.owner)) else lookup (nat_eq n) left.old.entries)) }
 {
     let owner = left_owner(scoping, emitting, place, name.owner);
     left.insert(name.node.0, owner)?;
@@ -61,8 +59,7 @@ fn left_owner(
     place: usize,
     owner: Option<NodeId>,
 ) -> Option<u64>
-    requires { emitting.now ≡ map emits scoping.now.symbols }
-    ensures { result ≡ left_owner scoping.now place (number_at owner) }
+    ensures { result ≡ left_owner emitting.now scoping.now.references place (number_at owner) }
 {
     if is_left(scoping, emitting, ReferenceId(place as u64)) {
         number_of(owner)
@@ -73,20 +70,18 @@ fn left_owner(
 
 /// Whether the reference means a symbol that emits code.
 fn is_left(scoping: &Scoping, emitting: &[bool], reference: ReferenceId) -> bool
-    requires { emitting.now ≡ map emits scoping.now.symbols }
-    ensures { result ≡ is_left scoping.now.symbols (live_at scoping.now.references reference.0) }
+    ensures { result ≡ is_left emitting.now (live_at scoping.now.references reference.0) }
 {
     if scoping.has_reference(reference) {
-        is_emitted(scoping, emitting, scoping.get_reference(reference).symbol)
+        is_emitted(emitting, scoping.get_reference(reference).symbol)
     } else {
         false
     }
 }
 
 /// Whether it is a symbol that emits code.
-fn is_emitted(scoping: &Scoping, emitting: &[bool], symbol: Option<SymbolId>) -> bool
-    requires { emitting.now ≡ map emits scoping.now.symbols }
-    ensures { result ≡ is_emitted scoping.now.symbols symbol }
+fn is_emitted(emitting: &[bool], symbol: Option<SymbolId>) -> bool
+    ensures { result ≡ is_emitted emitting.now symbol }
 {
     match symbol {
         Some(symbol) => emitting.get(symbol.0 as usize).copied().unwrap_or(false),

@@ -4,6 +4,7 @@ use crate::source_owners::SourceOwners;
 use oxt_scoping::entry::Redeclaration;
 use oxt_scoping::scoping::Scoping;
 use oxt_symbol::flags::{ReferenceFlags, ScopeFlags, SymbolFlags};
+use oxt_symbol::ids::SymbolId;
 use oxt_table::kind::Kind;
 use oxt_table::word::Word;
 use oxt_tree::ids::{NodeId, OutOfMemory, Span};
@@ -87,37 +88,96 @@ fn free(alloc: Global) -> Result<Node, OutOfMemory> {
     block(alloc, Vec::new(alloc), used(alloc)?)
 }
 
-/// The table of `{ let x; x; }`, where the declaration emits code or not.
-fn table(alloc: Global, emits: bool) -> Result<Scoping, OutOfMemory> {
-    let mut scoping = Scoping::new(alloc, ScopeFlags::Top, UidNames::new(alloc))?;
-    let flags = SymbolFlags::BlockScopedVariable;
-    let declaration = Redeclaration {
-        node: NodeId(4),
+/// `{ x }`, where the name stands in a type.
+fn typed(alloc: Global) -> Result<Node, OutOfMemory> {
+    let name = named(alloc, Kind::IdentifierReference, 6)?;
+    let reference = node(Kind::TSTypeReference, 5, one(alloc, name)?);
+    block(alloc, Vec::new(alloc), reference)
+}
+
+fn declaration(number: u64, flags: SymbolFlags, emits: bool) -> Redeclaration {
+    Redeclaration {
+        node: NodeId(number),
         flags,
         emits,
-    };
+    }
+}
+
+/// The table of `{ let x; x; }`, where `x` is declared so, and then so again.
+fn table(
+    alloc: Global,
+    first: Redeclaration,
+    second: Option<Redeclaration>,
+) -> Result<Scoping, OutOfMemory> {
+    let mut scoping = Scoping::new(alloc, ScopeFlags::Top, UidNames::new(alloc))?;
     let name = Name::new(alloc, "x")?;
     let root = scoping.root_scope_id();
-    let symbol = scoping.declare_symbol(&name, root, flags, declaration)?;
-    if scoping.has_symbol(symbol) {
-        scoping.create_reference(NodeId(6), Some(symbol), ReferenceFlags::Read)?;
-    }
+    let symbol = scoping.declare_symbol(&name, root, first.flags, first)?;
+    use_symbol(&mut scoping, symbol, second)?;
     Ok(scoping)
 }
 
-/// The first name that moved from `{ let x; x; }` to the output.
-fn moved(alloc: Global, emits: bool, output: &Node) -> Result<Option<usize>, OutOfMemory> {
+/// Declares the symbol so again, and uses it.
+fn use_symbol(
+    scoping: &mut Scoping,
+    symbol: SymbolId,
+    again: Option<Redeclaration>,
+) -> Result<(), OutOfMemory> {
+    declare_again(scoping, symbol, again)?;
+    if scoping.has_symbol(symbol) {
+        scoping.create_reference(NodeId(6), Some(symbol), ReferenceFlags::Read)?;
+    }
+    Ok(())
+}
+
+/// Declares the symbol so again.
+fn declare_again(
+    scoping: &mut Scoping,
+    symbol: SymbolId,
+    again: Option<Redeclaration>,
+) -> Result<(), OutOfMemory> {
+    match again {
+        Some(again) if scoping.has_symbol(symbol) => scoping.declare_again(symbol, again),
+        _ => Ok(()),
+    }
+}
+
+/// The first name that moved from `{ let x; x; }`, with that table, to the output.
+fn moved(
+    alloc: Global,
+    scoping: &Scoping,
+    all: bool,
+    output: &Node,
+) -> Result<Option<usize>, OutOfMemory> {
     let source = declared(alloc)?;
-    let owners = SourceOwners::of(alloc, &source, &table(alloc, emits)?)?;
+    let owners = SourceOwners::of(alloc, &source, scoping, all)?;
     owners.first_moved(alloc, output)
+}
+
+/// The same where `x` is a variable, which emits code or not.
+fn variable_moved(alloc: Global, emits: bool, output: &Node) -> Result<Option<usize>, OutOfMemory> {
+    let first = declaration(4, SymbolFlags::BlockScopedVariable, emits);
+    let scoping = table(alloc, first, None)?;
+    moved(alloc, &scoping, false, output)
+}
+
+/// The same where `x` is an import and then is declared with those flags, and free in the output.
+fn import_moved(
+    alloc: Global,
+    again: SymbolFlags,
+    all: bool,
+) -> Result<Option<usize>, OutOfMemory> {
+    let first = declaration(4, SymbolFlags::Import, true);
+    let scoping = table(alloc, first, Some(declaration(7, again, false)))?;
+    moved(alloc, &scoping, all, &free(alloc)?)
 }
 
 #[test]
 fn owners_stay(rt: HostRuntime) -> Result<(), Fail> {
     let alloc = rt.alloc();
-    let kept = moved(alloc, true, &declared(alloc)?)?;
+    let kept = variable_moved(alloc, true, &declared(alloc)?)?;
     assert_eq!(rt; kept, None);
-    let lost = moved(alloc, true, &free(alloc)?)?;
+    let lost = variable_moved(alloc, true, &free(alloc)?)?;
     assert_eq!(rt; lost, Some(0));
     Ok(())
 }
@@ -125,9 +185,29 @@ fn owners_stay(rt: HostRuntime) -> Result<(), Fail> {
 #[test]
 fn names_of_erased_groups_are_free(rt: HostRuntime) -> Result<(), Fail> {
     let alloc = rt.alloc();
-    let kept = moved(alloc, false, &free(alloc)?)?;
+    let kept = variable_moved(alloc, false, &free(alloc)?)?;
     assert_eq!(rt; kept, None);
-    let caught = moved(alloc, false, &declared(alloc)?)?;
+    let caught = variable_moved(alloc, false, &declared(alloc)?)?;
     assert_eq!(rt; caught, Some(0));
+    Ok(())
+}
+
+#[test]
+fn imports_of_names_that_are_values_again_are_free(rt: HostRuntime) -> Result<(), Fail> {
+    let alloc = rt.alloc();
+    let dropped = import_moved(alloc, SymbolFlags::Import, false)?;
+    assert_eq!(rt; dropped, None);
+    let kept = import_moved(alloc, SymbolFlags::Import, true)?;
+    assert_eq!(rt; kept, Some(0));
+    let merged = import_moved(alloc, SymbolFlags::Interface, false)?;
+    assert_eq!(rt; merged, Some(0));
+    Ok(())
+}
+
+#[test]
+fn names_in_types_have_no_owner_to_keep(rt: HostRuntime) -> Result<(), Fail> {
+    let alloc = rt.alloc();
+    let kept = variable_moved(alloc, true, &typed(alloc)?)?;
+    assert_eq!(rt; kept, None);
     Ok(())
 }

@@ -1,6 +1,6 @@
 -- What the table says of the names of imports and exports.
 use Rattle.std.specs.Prelude.{ℕ, List, [], Bool, false, not, ◌&&◌, ◌==◌, nat_eq, Option, None, Some, slice_get}
-use Rattle.std.specs.Int.RustNames.{bit_and, bit_or}
+use Rattle.std.specs.Int.RustNames.{bit_and}
 use Rattle.std.specs.List.{list_any}
 use Rattle.std.specs.Map.{lookup}
 use Rattle.oxt_scoping.specs.Entries.{SymbolData}
@@ -8,7 +8,7 @@ use Rattle.oxt_scoping.specs.Scoped.{Scoped, binding_at, live_at}
 use Rattle.oxt_scoping.specs.declared.entry.Redeclaration.{Redeclaration}
 use Rattle.oxt_scoping.specs.declared.entry.Reference.{Reference}
 use Rattle.oxt_scoping.specs.declared.entry.Slot.{Slot}
-use Rattle.oxt_symbol.specs.declared.flags.SymbolFlags.{SymbolFlags}
+use Rattle.oxt_symbol.specs.Flags.{is_type_alone}
 use Rattle.oxt_symbol.specs.declared.ids.ReferenceId.{ReferenceId}
 use Rattle.oxt_symbol.specs.declared.ids.SymbolId.{SymbolId}
 
@@ -30,14 +30,6 @@ declarations_of (Some y) = y.declarations
 abbrev pub references_of : Option SymbolData → List ReferenceId
 references_of None = []
 references_of (Some y) = y.references
-
--- the flags of imports of types, type aliases, interfaces, type parameters and namespaces of types
-abbrev pub type_bits : ℕ
-type_bits = bit_or (bit_or (bit_or (bit_or 64 128) 256) 512) 16384
-
--- the flags of what is a type alone
-abbrev pub is_type_alone : SymbolFlags → Bool
-is_type_alone f = not (bit_and f.0 type_bits == 0)
 
 -- one of the declarations is by another node and more than a type
 abbrev pub has_other_value : ℕ → List Redeclaration → Bool

@@ -5,7 +5,6 @@ ghost use Rattle.oxt_kept.specs.Jsx.{is_jsx_text};
 ghost use Rattle.oxt_options.specs.Options.{typescript_view};
 ghost use Rattle.oxt_plan.specs.Lists.{numbers_in};
 ghost use Rattle.oxt_tree.specs.Fields.{named};
-ghost use Rattle.oxt_tree.specs.Syntax.{is_type_only};
 ghost use Rattle.oxt_tree.specs.View.{doc_or_nil, docs_in, node_doc, part_doc};
 
 use crate::jsx::{JsxUse, is_jsx_name, jsx_use};
@@ -95,7 +94,7 @@ fn push_statement(
     ensures { OnOk result (numbers_in out.new.items ≡ numbers_in out.old.items
         ++ kept_in_statement scoping.now (typescript_view options.now) jsx (node_doc node.now)) }
 {
-    if is_type_only(node) {
+    if node.is_type_only() {
         return Ok(());
     }
     match place_of(node.kind) {
@@ -105,13 +104,6 @@ fn push_statement(
         }
         None => push_default(scoping, node, out),
     }
-}
-
-/// Whether it is an import or an export of types alone.
-fn is_type_only(node: &Node) -> bool
-    ensures { result ≡ is_type_only node.now.kind (docs_in node.now.parts.items) }
-{
-    node.holds_text("importKind", "type") || node.holds_text("exportKind", "type")
 }
 
 /// Where the specifiers of nodes of the kind stand; none where it has none.
@@ -162,7 +154,7 @@ fn push_specifier(
 {
     match part {
         Part::Node(node) => {
-            let is_kept = !is_type_only(node) && is_kept(scoping, options, jsx, place, node);
+            let is_kept = !node.is_type_only() && is_kept(scoping, options, jsx, place, node);
             push_if(is_kept, node.id, out)
         }
         _ => Ok(()),

@@ -2,12 +2,12 @@
 ghost use Rattle.std.specs.List.{list_any};
 ghost use Rattle.std.specs.Prelude.{◌≡◌};
 ghost use Rattle.oxt_scoping.specs.Scoped.{live_at};
-ghost use Rattle.oxt_kept.specs.Names.{declarations_of, declared_symbol, has_other_value, has_value_use, is_declared_again, is_name_kept, is_type_alone, is_type_name, is_used, is_value_use, references_of, type_bits};
+ghost use Rattle.oxt_kept.specs.Names.{declarations_of, declared_symbol, has_other_value, has_value_use, is_declared_again, is_name_kept, is_type_name, is_used, is_value_use, references_of};
 
 use bitflags::Flags;
 use oxt_scoping::entry::Redeclaration;
 use oxt_scoping::scoping::Scoping;
-use oxt_symbol::flags::{ReferenceFlags, SymbolFlags};
+use oxt_symbol::flags::ReferenceFlags;
 use oxt_symbol::ids::ReferenceId;
 use oxt_tree::ids::NodeId;
 
@@ -45,25 +45,7 @@ fn has_other_value(node: NodeId, declarations: &[Redeclaration]) -> bool
     ensures { result ≡ has_other_value node.0 declarations.now }
 {
     declarations.iter().any(|declaration| declaration.node.0 != node.0
-        && !is_type_alone(declaration.flags))
-}
-
-/// Whether the flags are those of a type alone.
-fn is_type_alone(flags: SymbolFlags) -> bool
-    ensures { result ≡ is_type_alone flags }
-{
-    flags.intersects(type_flags())
-}
-
-/// The flags of what is a type alone.
-fn type_flags() -> SymbolFlags
-    ensures { result.0 ≡ type_bits }
-{
-    SymbolFlags::TypeImport
-        .union(SymbolFlags::TypeAlias)
-        .union(SymbolFlags::Interface)
-        .union(SymbolFlags::TypeParameter)
-        .union(SymbolFlags::NamespaceModule)
+        && !declaration.flags.is_type_alone())
 }
 
 /// Whether a value use means the symbol that the node declares.

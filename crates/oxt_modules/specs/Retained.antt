@@ -1,12 +1,12 @@
 -- What is left of a module's imports and exports, by which specifiers are kept.
-use Rattle.std.specs.Prelude.{ℕ, Bool, false, not, ◌&&◌, ◌||◌, if◌then◌else◌, codes}
+use Rattle.std.specs.Prelude.{ℕ, ◌+◌, Bool, false, not, ◌&&◌, ◌||◌, if◌then◌else◌, codes}
 use Rattle.oxt_modules.specs.Places.{changed_in, with_field}
 use Rattle.oxt_table.specs.Places.{same_kind}
 use Rattle.oxt_table.specs.declared.kind.Kind.{Kind}
 use Rattle.oxt_table.specs.declared.kind.Kind.TheVariants as kind
 use Rattle.oxt_tree.specs.Doc.{Doc, nil, flag, number, text, list, node, Docs, no_docs, doc}
 use Rattle.oxt_tree.specs.Fields.{elements, field_of, is_empty_list, is_kind, is_text, named}
-use Rattle.oxt_tree.specs.Syntax.{is_type_only}
+use Rattle.oxt_tree.specs.Syntax.{is_definition_file, is_type_only}
 use Rattle.oxt_unbuilt.specs.Dropped.{is_dropped}
 
 -- ---- specifiers
@@ -151,10 +151,6 @@ body_retained ks all n (node k i b e ds) = node k i b e (changed_in (codes "body
 
 -- ---- definition files
 
--- a file of definitions
-abbrev pub is_definition_file : Doc → Bool
-is_definition_file d = is_text (codes "dts") (field_of (codes "lang") d)
-
 -- a program without code
 abbrev pub emptied : Doc → Doc
 emptied d =
@@ -165,3 +161,7 @@ emptied d =
 -- What is left of a program: nothing of a file of definitions; else what is left of its imports and exports.
 abbrev pub retained : (ℕ → Bool) → Bool → ℕ → Doc → Doc
 retained ks all n d = if is_definition_file d then emptied d else body_retained ks all n d
+
+-- the number that comes next afterwards: one is used up, but for a file of definitions
+abbrev pub next_after : Doc → ℕ → ℕ
+next_after d n = if is_definition_file d then n else n + 1

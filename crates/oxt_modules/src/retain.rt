@@ -1,6 +1,6 @@
 //! What is left of the imports and exports of a program.
 ghost use Rattle.std.specs.Prelude.{◌≡◌, OnOk, codes};
-ghost use Rattle.oxt_modules.specs.Retained.{body_retained, emptied, retained, retained_body};
+ghost use Rattle.oxt_modules.specs.Retained.{body_retained, emptied, next_after, retained, retained_body};
 ghost use Rattle.oxt_plan.specs.Facts.{is_in};
 ghost use Rattle.oxt_tree.specs.Doc.{list, nil, no_docs};
 ghost use Rattle.oxt_tree.specs.View.{node_doc, part_doc};
@@ -28,10 +28,11 @@ pub fn retain_modules(
     plan: &Plan,
     only_remove_type_imports: bool,
 ) -> Result<(), OutOfMemory>
-    ensures { OnOk result (node_doc program.new.root
+    ensures root { OnOk result (node_doc program.new.root
         ≡ retained (is_in plan.now.kept) only_remove_type_imports program.old.ids.next (node_doc program.old.root)) }
+    ensures ids { OnOk result (program.new.ids.next ≡ next_after (node_doc program.old.root) program.old.ids.next) }
 {
-    if program.root.holds_text("lang", "dts") {
+    if program.root.is_definition_file() {
         empty(&mut program.root);
         return Ok(());
     }

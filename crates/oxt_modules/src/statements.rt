@@ -5,7 +5,6 @@ ghost use Rattle.oxt_modules.specs.Retained.{any_module, any_removed, each_trimm
 ghost use Rattle.oxt_plan.specs.Facts.{is_in};
 ghost use Rattle.oxt_unbuilt.specs.Dropped.{is_dropped};
 ghost use Rattle.oxt_tree.specs.Fields.{named};
-ghost use Rattle.oxt_tree.specs.Syntax.{is_type_only};
 ghost use Rattle.oxt_tree.specs.View.{docs_in, node_doc, part_doc};
 
 use crate::specifiers::{is_export_list, is_kept, loses_all, trim_statement};
@@ -151,11 +150,11 @@ fn node_is_removed(plan: &Plan, all: bool, node: &Node) -> bool
 {
     let kind = node.kind;
     if kind.is(Kind::ImportDeclaration) {
-        is_type_only(node) || (!all && loses_all(plan, node.list("specifiers")))
+        node.is_type_only() || (!all && loses_all(plan, node.list("specifiers")))
     } else if is_export_list(kind) {
-        is_type_only(node) || loses_all(plan, node.list("specifiers"))
+        node.is_type_only() || loses_all(plan, node.list("specifiers"))
     } else if kind.is(Kind::ExportAllDeclaration) {
-        is_type_only(node)
+        node.is_type_only()
     } else if kind.is(Kind::ExportDeclaration) {
         exports_nothing(node)
     } else if kind.is(Kind::ExportDefaultDeclaration) {
@@ -163,13 +162,6 @@ fn node_is_removed(plan: &Plan, all: bool, node: &Node) -> bool
     } else {
         kind.is(Kind::TSNamespaceExportDeclaration)
     }
-}
-
-/// Whether the node is an import or an export of types alone.
-fn is_type_only(node: &Node) -> bool
-    ensures { result ≡ is_type_only node.now.kind (docs_in node.now.parts.items) }
-{
-    node.holds_text("importKind", "type") || node.holds_text("exportKind", "type")
 }
 
 /// Whether what the export declares stands for nothing at run time.

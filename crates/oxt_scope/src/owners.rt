@@ -14,7 +14,6 @@ use crate::look::meaning;
 use crate::scope::{Scope, scope_of};
 use crate::usage::{Usage, usage_of};
 use crate::way::{Pass, Reading, Step, Way, step_of};
-use oxt_declares::collect::is_type_only;
 use oxt_declares::declares::text_of;
 use oxt_declares::role::Role;
 use oxt_declares::role_of::role_of;
@@ -89,9 +88,9 @@ fn is_marked(role: Role, node: &Node) -> bool
     ensures { result ≡ is_marked role node.now.kind (docs_in node.now.parts.items) }
 {
     match role {
-        Role::ExportList => is_type_only(node),
-        Role::Specifier => is_type_only(node),
-        Role::ImportEquals => is_type_only(node),
+        Role::ExportList => node.is_type_only(),
+        Role::Specifier => node.is_type_only(),
+        Role::ImportEquals => node.is_type_only(),
         Role::Assignment => node.holds_text("operator", "="),
         _ => false,
     }

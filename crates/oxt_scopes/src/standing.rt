@@ -8,7 +8,6 @@ ghost use Rattle.oxt_tree.specs.View.{docs_in};
 ghost use Rattle.oxt_declares.specs.TypesAlone.{is_of_types};
 ghost use Rattle.oxt_scopes.specs.Standings.{declares_alone, is_erased_alone, is_erased_by, joined, own_standing, standing_in};
 
-use oxt_declares::collect::is_type_only;
 use oxt_declares::role::Role;
 use oxt_declares::role_of::role_of;
 use oxt_declares::types_alone::is_of_types;
@@ -75,7 +74,7 @@ fn is_erased_alone(node: &Node) -> bool
     ensures { result ≡ is_erased_alone node.now.kind (docs_in node.now.parts.items) }
 {
     is_erased_kind(node.kind)
-        || (is_type_only(node)
+        || (node.is_type_only()
             || (node.holds_kind("value", Kind::TSEmptyBodyFunctionExpression)
                 || is_erased_by(role_of(node.kind), node)))
 }

@@ -1,6 +1,9 @@
 //! Tables that are filled by hand.
+//!
+//! Each test makes a table, and a function that borrows it says whether what is tested holds: it drops
+//! no table where memory runs out, which is what costs in a proof.
 
-ghost use Rattle.std.specs.Prelude.{◌<◌, IfOk, length};
+ghost use Rattle.std.specs.Prelude.{◌≡◌, ◌<◌, IfOk, length};
 
 use crate::entry::Redeclaration;
 use crate::scoping::Scoping;
@@ -12,40 +15,59 @@ use oxt_tree::ids::{NodeId, OutOfMemory};
 use oxt_tree::name::Name;
 use oxt_uid::uid::UidNames;
 use std::alloc::Global;
-use std::test::Fail;
 
-/// The scope of the function of `{ f(function(a) {}) }`, made by hand.
-#[test]
-fn names_are_bound_in_their_scope(rt: HostRuntime) -> Result<(), Fail> {
-    let alloc = rt.alloc();
-    let mut scoping = Scoping::new(alloc, ScopeFlags::Top, UidNames::new(alloc))?;
+/// The table of a program without names.
+fn empty(alloc: Global) -> Result<Scoping, OutOfMemory>
+    ensures { IfOk result (λ made. length made.scopes ≡ 1) }
+{
+    Scoping::new(alloc, ScopeFlags::Top, UidNames::new(alloc))
+}
+
+/// Whether a name is bound in the scope of the function of `{ f(function(a) {}) }`, made by hand.
+fn binds_a_name(alloc: Global, scoping: &mut Scoping) -> Result<bool, OutOfMemory> {
     let name = Name::new(alloc, "a")?;
     let root = scoping.root_scope_id();
     let scope = scoping.create_child_scope(root, ScopeFlags::Function)?;
     let flags = SymbolFlags::FunctionScopedVariable;
     let symbol = scoping.create_symbol(&name, scope, flags, NodeId(9))?;
-    assert_eq!(rt; scoping.symbol_of(NodeId(9)), Some(symbol));
-    assert_eq!(rt; scoping.get_binding(scope, "a"), Some(symbol));
-    assert_eq!(rt; scoping.find_binding(scope, "f"), None);
-    Ok(())
+    Ok(
+        scoping.symbol_of(NodeId(9)) == Some(symbol)
+            && scoping.get_binding(scope, "a") == Some(symbol)
+            && scoping.find_binding(scope, "f").is_none(),
+    )
 }
 
 #[test]
-fn nodes_open_scopes(rt: HostRuntime) -> Result<(), Fail> {
-    let alloc = rt.alloc();
-    let mut scoping = Scoping::new(alloc, ScopeFlags::Top, UidNames::new(alloc))?;
+fn names_are_bound_in_their_scope(rt: HostRuntime) {
+    let mut scoping = empty(rt.alloc()).expect(&rt, "memory");
+    let holds = binds_a_name(rt.alloc(), &mut scoping).expect(&rt, "memory");
+    assert!(rt; holds);
+    drop(scoping);
+}
+
+/// Whether a node opens a scope.
+fn opens_a_scope(scoping: &mut Scoping) -> Result<bool, OutOfMemory> {
     let root = scoping.root_scope_id();
     let scope = scoping.open_scope(NodeId(3), root, ScopeFlags::Arrow)?;
-    assert_eq!(rt; scoping.scope_of(NodeId(3)), Some(scope));
-    assert_eq!(rt; scoping.scope_of(NodeId(4)), None);
-    assert_eq!(rt; scope.0, 1);
-    Ok(())
+    Ok(
+        scoping.scope_of(NodeId(3)) == Some(scope)
+            && scoping.scope_of(NodeId(4)).is_none()
+            && scope.0 == 1,
+    )
 }
 
 #[test]
-fn symbols_are_declared_again(rt: HostRuntime) -> Result<(), Fail> {
-    let alloc = rt.alloc();
-    let mut scoping = Scoping::new(alloc, ScopeFlags::Top, UidNames::new(alloc))?;
+fn nodes_open_scopes(rt: HostRuntime) {
+    let mut scoping = empty(rt.alloc()).expect(&rt, "memory");
+    let holds = opens_a_scope(&mut scoping).expect(&rt, "memory");
+    assert!(rt; holds);
+    drop(scoping);
+}
+
+/// Whether a second node declares a symbol.
+fn declares_again(alloc: Global, scoping: &mut Scoping) -> Result<bool, OutOfMemory>
+    requires { length scoping.old.scopes ≡ 1 }
+{
     let name = Name::new(alloc, "E")?;
     let flags = SymbolFlags::Enum;
     let symbol = scoping.create_symbol(&name, ScopeId(0), flags, NodeId(2))?;
@@ -57,40 +79,63 @@ fn symbols_are_declared_again(rt: HostRuntime) -> Result<(), Fail> {
         };
         scoping.declare_again(symbol, again)?;
     }
-    assert_eq!(rt; scoping.symbol_of(NodeId(7)), Some(symbol));
-    Ok(())
+    Ok(scoping.symbol_of(NodeId(7)) == Some(symbol))
 }
 
 #[test]
-fn a_reference_is_deleted(rt: HostRuntime) -> Result<(), Fail> {
-    let alloc = rt.alloc();
-    let mut scoping = Scoping::new(alloc, ScopeFlags::Top, UidNames::new(alloc))?;
+fn symbols_are_declared_again(rt: HostRuntime) {
+    let mut scoping = empty(rt.alloc()).expect(&rt, "memory");
+    let holds = declares_again(rt.alloc(), &mut scoping).expect(&rt, "memory");
+    assert!(rt; holds);
+    drop(scoping);
+}
+
+/// Whether a reference is there until it is deleted.
+fn deletes_a_reference(scoping: &mut Scoping) -> Result<bool, OutOfMemory> {
     let reference = scoping.create_reference(NodeId(4), None, ReferenceFlags::Read)?;
-    assert_eq!(rt; scoping.reference_of(NodeId(4)), Some(reference));
-    assert!(rt; scoping.has_reference(reference));
+    let is_there = scoping.reference_of(NodeId(4)) == Some(reference);
+    if !scoping.has_reference(reference) {
+        return Ok(false);
+    }
     scoping.delete_reference(reference);
-    assert_eq!(rt; scoping.reference_of(NodeId(4)), None);
-    Ok(())
+    Ok(is_there && scoping.reference_of(NodeId(4)).is_none())
 }
 
 #[test]
-fn flags_change(rt: HostRuntime) -> Result<(), Fail> {
-    let alloc = rt.alloc();
-    let mut scoping = Scoping::new(alloc, ScopeFlags::Top, UidNames::new(alloc))?;
+fn a_reference_is_deleted(rt: HostRuntime) {
+    let mut scoping = empty(rt.alloc()).expect(&rt, "memory");
+    let holds = deletes_a_reference(&mut scoping).expect(&rt, "memory");
+    assert!(rt; holds);
+    drop(scoping);
+}
+
+/// Whether the flags of the first scope are those that were written.
+fn changes_flags(scoping: &mut Scoping) -> bool {
     let root = scoping.root_scope_id();
     *scoping.scope_flags_mut(root) = ScopeFlags::StrictMode;
-    assert!(rt; scoping.has_scope(root));
-    assert_eq!(rt; scoping.scope_flags(root), ScopeFlags::StrictMode);
-    Ok(())
+    scoping.has_scope(root) && scoping.scope_flags(root) == ScopeFlags::StrictMode
 }
 
 #[test]
-fn names_are_made(rt: HostRuntime) -> Result<(), Fail> {
-    let alloc = rt.alloc();
-    let mut scoping = Scoping::new(alloc, ScopeFlags::Top, UidNames::new(alloc))?;
-    assert_eq!(rt; scoping.generate_uid_name("x")?.as_str(), "_x");
-    assert_eq!(rt; scoping.generate_uid_name("x")?.as_str(), "_x2");
-    Ok(())
+fn flags_change(rt: HostRuntime) {
+    let mut scoping = empty(rt.alloc()).expect(&rt, "memory");
+    let holds = changes_flags(&mut scoping);
+    assert!(rt; holds);
+    drop(scoping);
+}
+
+/// Whether the next made name for `x` is that one.
+fn makes(scoping: &mut Scoping, name: &str) -> Result<bool, OutOfMemory> {
+    Ok(scoping.generate_uid_name("x")?.as_str() == name)
+}
+
+#[test]
+fn names_are_made(rt: HostRuntime) {
+    let mut scoping = empty(rt.alloc()).expect(&rt, "memory");
+    let is_first = makes(&mut scoping, "_x").expect(&rt, "memory");
+    let is_second = makes(&mut scoping, "_x2").expect(&rt, "memory");
+    assert!(rt; is_first && is_second);
+    drop(scoping);
 }
 
 /// A symbol `x` of the program, declared so.
@@ -112,47 +157,64 @@ fn declared(
     scoping.declare_symbol(&name, root, flags, declaration)
 }
 
-#[test]
-fn types_and_ambient_names_are_deleted(rt: HostRuntime) -> Result<(), Fail> {
-    let alloc = rt.alloc();
+/// A table of a program of one node.
+fn of_program(alloc: Global) -> Result<Scoping, OutOfMemory> {
     let names = UidNames::new(alloc);
-    let mut scoping = Scoping::of_program(alloc, ScopeFlags::Top, NodeId(1), names)?;
-    let root = scoping.root_scope_id();
-    assert_eq!(rt; scoping.scope_of(NodeId(1)), Some(root));
-    declared(alloc, &mut scoping, "a", SymbolFlags::Interface)?;
-    let value = declared(alloc, &mut scoping, "b", SymbolFlags::Class)?;
-    declared(
-        alloc,
-        &mut scoping,
-        "c",
-        SymbolFlags::Class.union(SymbolFlags::Ambient),
-    )?;
+    Scoping::of_program(alloc, ScopeFlags::Top, NodeId(1), names)
+}
+
+/// Whether what is left of an interface, a class and an ambient class is the class.
+fn deletes_bindings(alloc: Global, scoping: &mut Scoping) -> Result<bool, OutOfMemory> {
+    let ambient = SymbolFlags::Class.union(SymbolFlags::Ambient);
+    declared(alloc, scoping, "a", SymbolFlags::Interface)?;
+    let value = declared(alloc, scoping, "b", SymbolFlags::Class)?;
+    declared(alloc, scoping, "c", ambient)?;
     scoping.delete_typescript_bindings();
     let root = scoping.root_scope_id();
-    assert_eq!(rt; scoping.get_binding(root, "a"), None);
-    assert_eq!(rt; scoping.get_binding(root, "b"), Some(value));
-    assert_eq!(rt; scoping.get_binding(root, "c"), None);
-    Ok(())
+    Ok(
+        scoping.get_binding(root, "a").is_none()
+            && scoping.get_binding(root, "b") == Some(value)
+            && scoping.get_binding(root, "c").is_none(),
+    )
 }
 
 #[test]
-fn enums_have_bodies_and_constants(rt: HostRuntime) -> Result<(), Fail> {
-    let alloc = rt.alloc();
-    let mut scoping = Scoping::new(alloc, ScopeFlags::Top, UidNames::new(alloc))?;
-    let symbol = declared(alloc, &mut scoping, "E", SymbolFlags::ConstEnum)?;
+fn types_and_ambient_names_are_deleted(rt: HostRuntime) {
+    let mut scoping = of_program(rt.alloc()).expect(&rt, "memory");
+    assert!(rt; scoping.scope_of(NodeId(1)) == Some(scoping.root_scope_id()));
+    let holds = deletes_bindings(rt.alloc(), &mut scoping).expect(&rt, "memory");
+    assert!(rt; holds);
+    drop(scoping);
+}
+
+/// Whether a `const` enum has one body, and its value is 7.
+fn is_seven(scoping: &Scoping, symbol: SymbolId) -> bool
+    requires { symbol.0 < length scoping.now.symbols }
+{
+    let has_one_body = match scoping.get_enum_body_scopes(symbol) {
+        Some(bodies) => bodies.len() == 1,
+        None => false,
+    };
+    let has_value = match scoping.get_enum_member_value(symbol) {
+        Some(ConstantValue::Number(number)) => *number == 7,
+        _ => false,
+    };
+    scoping.is_const_enum(symbol) && has_one_body && has_value
+}
+
+/// Whether an enum has the body and the constant that were given to it.
+fn has_an_enum(alloc: Global, scoping: &mut Scoping) -> Result<bool, OutOfMemory> {
+    let symbol = declared(alloc, scoping, "E", SymbolFlags::ConstEnum)?;
     let root = scoping.root_scope_id();
     scoping.add_enum_body(symbol, root)?;
     scoping.set_enum_member_value(symbol, ConstantValue::Number(7));
-    if scoping.has_symbol(symbol) {
-        assert!(rt; scoping.is_const_enum(symbol));
-        match scoping.get_enum_body_scopes(symbol) {
-            Some(bodies) => assert_eq!(rt; bodies.len(), 1),
-            None => assert!(rt; false),
-        }
-        match scoping.get_enum_member_value(symbol) {
-            Some(ConstantValue::Number(number)) => assert_eq!(rt; *number, 7),
-            _ => assert!(rt; false),
-        }
-    }
-    Ok(())
+    Ok(scoping.has_symbol(symbol) && is_seven(scoping, symbol))
+}
+
+#[test]
+fn enums_have_bodies_and_constants(rt: HostRuntime) {
+    let mut scoping = empty(rt.alloc()).expect(&rt, "memory");
+    let holds = has_an_enum(rt.alloc(), &mut scoping).expect(&rt, "memory");
+    assert!(rt; holds);
+    drop(scoping);
 }

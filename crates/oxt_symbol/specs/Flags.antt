@@ -1,5 +1,6 @@
 -- The flags of symbols, scopes and references: the bit of each, and the bits of a set.
-use Rattle.std.specs.Prelude.{ℕ, List, [], ◌∷◌, codes}
+use Rattle.std.specs.Prelude.{ℕ, List, [], ◌∷◌, Bool, not, ◌==◌, codes}
+use Rattle.std.specs.Int.RustNames.{bit_and, bit_or}
 use Rattle.oxt_symbol.specs.declared.flags.SymbolFlags.{SymbolFlags}
 use Rattle.oxt_symbol.specs.declared.flags.ScopeFlags.{ScopeFlags}
 use Rattle.oxt_symbol.specs.declared.flags.ReferenceFlags.{ReferenceFlags}
@@ -11,6 +12,14 @@ Table = List (List ℕ × ℕ)
 -- the bits of a set of flags of a symbol
 abbrev pub symbol_bits : SymbolFlags → ℕ
 symbol_bits flags = flags.0
+
+-- the flags of imports of types, type aliases, interfaces, type parameters and namespaces of types
+abbrev pub type_bits : ℕ
+type_bits = bit_or (bit_or (bit_or (bit_or 64 128) 256) 512) 16384
+
+-- the flags of what is a type alone
+abbrev pub is_type_alone : SymbolFlags → Bool
+is_type_alone flags = not (bit_and flags.0 type_bits == 0)
 
 abbrev pub symbol_table : Table
 symbol_table =

@@ -1,6 +1,6 @@
 //! What is known of symbols, scopes and references, as sets of flags.
-ghost use Rattle.std.specs.Prelude.{⊤};
-ghost use Rattle.oxt_symbol.specs.Flags.{reference_bits, reference_table, scope_bits, scope_table, symbol_bits, symbol_table};
+ghost use Rattle.std.specs.Prelude.{⊤, ◌≡◌};
+ghost use Rattle.oxt_symbol.specs.Flags.{is_type_alone, reference_bits, reference_table, scope_bits, scope_table, symbol_bits, symbol_table, type_bits};
 
 use bitflags::{Flag, Flags};
 
@@ -124,6 +124,24 @@ impl SymbolFlags {
             value: SymbolFlags::Ambient,
         },
     ];
+
+    /// Whether they are those of a type alone, which is nothing at run time.
+    pub fn is_type_alone(self) -> bool
+        ensures { result ≡ is_type_alone self }
+    {
+        self.intersects(type_flags())
+    }
+}
+
+/// The flags of what is a type alone.
+fn type_flags() -> SymbolFlags
+    ensures { result.0 ≡ type_bits }
+{
+    SymbolFlags::TypeImport
+        .union(SymbolFlags::TypeAlias)
+        .union(SymbolFlags::Interface)
+        .union(SymbolFlags::TypeParameter)
+        .union(SymbolFlags::NamespaceModule)
 }
 
 impl Flags for SymbolFlags {

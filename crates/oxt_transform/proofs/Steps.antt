@@ -1,12 +1,15 @@
 -- What each step of the work says of the bytes.
-use Rattle.std.proofs.Common.{◌≡◌, ℕ, List, Bool, true, false, Option, None, Some, refl, ap, ◌∙◌, sym, subst}
-use Rattle.std.specs.Prelude.{if◌then◌else◌, option_map}
+use Rattle.std.proofs.Common.{◌≡◌, ℕ, List, [], ◌∷◌, length, Bool, true, false, Option, None, Some, refl, ap, ◌∙◌, sym, subst}
+use Rattle.std.specs.Prelude.{if◌then◌else◌, option_map, replicate}
 use Rattle.std.proofs.Math.Path.{fun_ext}
 use Rattle.std.specs.Option.{option_or}
 use Rattle.oxt_annotations.proofs.Trees.{output_stripped}
 use Rattle.oxt_annotations.proofs.Truth.{false_true}
 use Rattle.oxt_captured.specs.Captured.{Capture, captured}
+use Rattle.oxt_annotations.specs.Stripped.{stripped}
+use Rattle.oxt_check.specs.Diagnostics.{diagnostics, wrapper_stays}
 use Rattle.oxt_check.specs.Faults.{IsFaultOf, captured_refusal, facts_of, misplaced_refusal}
+use Rattle.oxt_diagnostic.specs.declared.diagnostic.OxcDiagnostic.{OxcDiagnostic}
 use Rattle.oxt_facts.specs.Facts.{of_source}
 use Rattle.oxt_hygiene.proofs.Moved.{none_moved, some_moved}
 use Rattle.oxt_hygiene.specs.Keeps.{IsTableOf, first_moved}
@@ -19,23 +22,31 @@ use Rattle.oxt_json_write.specs.Spelled.{text_of}
 use Rattle.oxt_kept.specs.Kept.{kept}
 use Rattle.oxt_misplaced.specs.Misplaced.{misplaced}
 use Rattle.oxt_misplaced.specs.declared.misplaced.MisplacedKind.{MisplacedKind}
-use Rattle.oxt_modules.specs.Retained.{is_definition_file, retained}
+use Rattle.oxt_modules.specs.Retained.{retained}
+use Rattle.oxt_tree.specs.Syntax.{is_definition_file}
 use Rattle.oxt_options.specs.Options.{TransformData}
 use Rattle.oxt_plan.specs.Facts.{Answers, Facts, is_in}
 use Rattle.oxt_resolve.specs.Resolved.{resolved}
 use Rattle.oxt_scope.specs.Owners.{owners_of}
 use Rattle.oxt_scoping.specs.Scoped.{Scoped}
+use Rattle.oxt_targets.proofs.Kept.{plain_beside_nothing}
+use Rattle.oxt_targets.proofs.Plainly.{plain_has_none}
+use Rattle.oxt_targets.specs.Beside.{is_plain_beside}
+use Rattle.oxt_targets.specs.Targets.{is_listed, targets}
 use Rattle.oxt_transform.specs.Faults.{refusal_in, IsReasonFor}
-use Rattle.oxt_transform.specs.Left.{HasLeft, fault_of, module_left, without_types}
-use Rattle.oxt_transform.specs.Lowering.{Lowers, Passes}
-use Rattle.oxt_transform.specs.Outcomes.{IfRefused, IsDoneUncertifiedOrMemory, IsRefusedMemoryOrWriteFault, NothingStands, OnWriteFault, Reported, is_uncertified}
+use Rattle.oxt_transform.specs.Left.{HasLeft, fault_of, lowered, module_left, without_types}
+use Rattle.oxt_transform.specs.Lowering.{Lowers, Passes, ReturnsPlain}
+use Rattle.oxt_transform.specs.Outcomes.{IfRefused, IsAnswerUncertifiedOrMemory, IsRefusedMemoryOrWriteFault, NothingStands, OnWriteFault, Reported, is_uncertified}
 use Rattle.oxt_transform.specs.Refusals.{Accepts, Difference, Hinders, IsHindrance, IsFailure, IsMoved, Judges, Refusal, Refuses, captured_name, json, misplaced_node, names_of, shape, unbuilt_form, uncertified}
 use Rattle.oxt_transform.specs.Settings.{SettingsData, differs, has_language, is_script, settings_of}
 use Rattle.oxt_transform.specs.declared.program.Outcome.{Outcome}
-use Rattle.oxt_transform.specs.declared.program.Outcome.TheVariants.{Done, Refused, Usage, ReadFault, WriteFault, Memory, TooLong}
+use Rattle.oxt_transform.specs.declared.program.Outcome.TheVariants.{Done, Diagnosed, Refused, Usage, ReadFault, WriteFault, Memory, TooLong}
 use Rattle.oxt_tree.specs.Doc.{Doc}
 use Rattle.oxt_tree.specs.declared.name.Name.{Name}
 use Rattle.oxt_unbuilt.specs.Unbuilt.{unbuilt}
+use Rattle.oxt_unchanged.proofs.Language.{left_as_javascript}
+use Rattle.oxt_unchanged.proofs.Statements.{all_retained}
+use Rattle.oxt_unchanged.specs.Unchanged.{IsPlainSource, as_javascript}
 use Rattle.oxt_valid.specs.Plain.{is_plain}
 use Rattle.oxt_valid.specs.Valid.{is_tree}
 use Rattle.oxt_word.specs.Word.{word}
@@ -79,13 +90,14 @@ pub completes : (o : Outcome) (came : Option Refusal) (options : TransformData) 
     → IsReasonFor came options bytes
     → GaveAll left left' bytes
     → NothingStands words left read read' wrote wrote' told told'
-    → IsDoneUncertifiedOrMemory o
+    → IsAnswerUncertifiedOrMemory o
 completes (Refused f) came options words left left' taken taken' read read' wrote wrote' told told' bytes only reported rose reason all stands =
     ap is_uncertified reported.is
     ∙ only_uncertified reported.refusal options bytes (subst (λ (r : Option Refusal). IsReasonFor r options bytes) (reported.same ∙ reported.is) reason) (subst Accepts (sym (same_bytes left left' bytes stands.bytes all stands.holds)) stands.accepted)
 completes Memory came options words left left' taken taken' read read' wrote wrote' told told' bytes only reported rose reason all stands = tt
 completes WriteFault came options words left left' taken taken' read read' wrote wrote' told told' bytes only reported rose reason all stands = absurd (stands.told_well rose)
 completes Done came options words left left' taken taken' read read' wrote wrote' told told' bytes only reported rose reason all stands = tt
+completes Diagnosed came options words left left' taken taken' read read' wrote wrote' told told' bytes only reported rose reason all stands = tt
 completes Usage came options words left left' taken taken' read read' wrote wrote' told told' bytes only reported rose reason all stands = absurd only
 completes ReadFault came options words left left' taken taken' read read' wrote wrote' told told' bytes only reported rose reason all stands = absurd only
 completes TooLong came options words left left' taken taken' read read' wrote wrote' told told' bytes only reported rose reason all stands = absurd only
@@ -108,56 +120,62 @@ left_same o next source before known s table a made =
     ∙ (ap (λ k. retained k o.typescript.only_remove_type_imports next source) (kept_same known (facts_of s source o) a)
     ∙ ap (λ t. retained (is_in (kept t source o.typescript)) o.typescript.only_remove_type_imports next source) table)
 
-moved_kept : (es : OwnerList) (s : Scoped) (source output : Doc) → IsTableOf es (left_owners s (owners_of source)) → s ≡ resolved source → (moved : Option ℕ) → first_moved es (owners_of output) ≡ moved → IsMoved source output moved
-moved_kept es s source output is table None h = none_moved es (left_owners (resolved source) (owners_of source)) (owners_of output) (subst (λ t. IsTableOf es (left_owners t (owners_of source))) table is) h
-moved_kept es s source output is table (Some i) h = some_moved es (left_owners (resolved source) (owners_of source)) (owners_of output) i (subst (λ t. IsTableOf es (left_owners t (owners_of source))) table is) h
+module _ (o : TransformData) (es : OwnerList) (s : Scoped) (source output : Doc)
+    (is : IsTableOf es (left_owners o.typescript.only_remove_type_imports s (owners_of source))) (table : s ≡ resolved source) where
+  of_source_table : IsTableOf es (left_owners o.typescript.only_remove_type_imports (resolved source) (owners_of source))
+  of_source_table = subst (λ t. IsTableOf es (left_owners o.typescript.only_remove_type_imports t (owners_of source))) table is
+
+  moved_kept : (moved : Option ℕ) → first_moved es (owners_of output) ≡ moved → IsMoved o source output moved
+  moved_kept None h = none_moved es (left_owners o.typescript.only_remove_type_imports (resolved source) (owners_of source)) (owners_of output) of_source_table h
+  moved_kept (Some i) h = some_moved es (left_owners o.typescript.only_remove_type_imports (resolved source) (owners_of source)) (owners_of output) i of_source_table h
 
 lowered_is : (definitions : Bool) (before output : Doc) → HasLeft definitions before output → is_tree output ≡ true → is_plain output ≡ true → has_language definitions output ≡ true → output ≡ without_types definitions before
 lowered_is true before output left valid plain language = left
 lowered_is false before output left valid plain language = output_stripped before output left valid plain language
 
-module _ (o : TransformData) (next : ℕ) (source before output : Doc) (words : List Entry) (taken : List (List ℕ)) (settings : SettingsData) (s : Scoped) (es : OwnerList)
+module _ (o : TransformData) (next : ℕ) (source before output : Doc) (words : List Entry) (taken : List (List ℕ)) (settings : SettingsData) (staying : List ℕ) (s : Scoped) (es : OwnerList)
     (faultless : fault_of source ≡ None)
     (is_left : before ≡ module_left o next source)
     (left : HasLeft settings.definitions before output)
     (said : words ≡ word of_source before)
     (names : taken ≡ names_of source)
     (as_source : settings ≡ settings_of source)
+    (stay : staying ≡ targets source)
     (table : s ≡ resolved source)
-    (owners : IsTableOf es (left_owners s (owners_of source))) where
-  judged_source : (moved : Option ℕ) (d : Option Difference) → Judges words taken settings moved output d → Judges (word of_source (module_left o next source)) (names_of source) (settings_of source) moved output d
+    (owners : IsTableOf es (left_owners o.typescript.only_remove_type_imports s (owners_of source))) where
+  judged_source : (moved : Option ℕ) (d : Option Difference) → Judges words taken settings staying moved output d → Judges (word of_source (module_left o next source)) (names_of source) (settings_of source) (targets source) moved output d
   judged_source moved d judged =
-      let as_word = subst (λ w. Judges w taken settings moved output d) (said ∙ ap (word of_source) is_left) judged in
-      let as_names = subst (λ ns. Judges (word of_source (module_left o next source)) ns settings moved output d) names as_word in
-      subst (λ b. Judges (word of_source (module_left o next source)) (names_of source) b moved output d) as_source as_names
+      let as_word = subst (λ w. Judges w taken settings staying moved output d) (said ∙ ap (word of_source) is_left) judged in
+      let as_names = subst (λ ns. Judges (word of_source (module_left o next source)) ns settings staying moved output d) names as_word in
+      let as_settings = subst (λ b. Judges (word of_source (module_left o next source)) (names_of source) b staying moved output d) as_source as_names in
+      subst (λ ts. Judges (word of_source (module_left o next source)) (names_of source) (settings_of source) ts moved output d) stay as_settings
 
   same_left : HasLeft (is_definition_file source) (module_left o next source) output
   same_left = subst (λ b. HasLeft (is_definition_file source) b output) is_left (subst (λ (t : SettingsData). HasLeft t.definitions before output) as_source left)
 
-  walked : Judges words taken settings (first_moved es (owners_of output)) output None → Passes o next source output
+  walked : Judges words taken settings staying (first_moved es (owners_of output)) output None → Passes o next source output
   walked judged =
       let whole = judged_source (first_moved es (owners_of output)) None judged in
-      let language = right_language (differs (is_script source) (is_script output)) (has_language (is_definition_file source) output) _ _ whole.2 in
       record {
         faultless = faultless;
-        lowers = lowered_is (is_definition_file source) (module_left o next source) output same_left whole.0 whole.1 language;
+        left = same_left;
         judged = (whole.0, whole.1, whole.2, whole.3, refl);
-        owners = moved_kept es s source output owners table None whole.4;
+        owners = moved_kept o es s source output owners table None whole.4;
       }
 
-  failed : (d : Difference) → Judges words taken settings (first_moved es (owners_of output)) output (Some d) → Hinders (uncertified d) o next source
+  failed : (d : Difference) → Judges words taken settings staying (first_moved es (owners_of output)) output (Some d) → Hinders (uncertified d) o next source
   failed d judged =
       record {
         output = output;
         moved = first_moved es (owners_of output);
         faultless = faultless;
         left = same_left;
-        owners = moved_kept es s source output owners table (first_moved es (owners_of output)) refl;
+        owners = moved_kept o es s source output owners table (first_moved es (owners_of output)) refl;
         judged = judged_source (first_moved es (owners_of output)) (Some d) judged;
       }
 
 -- where the test finds nothing, the tree that was made is what it has to be
-pub certified : (o : TransformData) (next : ℕ) (source output : Doc) (words : List Entry) (taken : List (List ℕ)) (settings : SettingsData) (s : Scoped) (known : Facts) (es : OwnerList)
+pub certified : (o : TransformData) (next : ℕ) (source output : Doc) (words : List Entry) (taken : List (List ℕ)) (settings : SettingsData) (staying : List ℕ) (s : Scoped) (known : Facts) (es : OwnerList)
     → fault_of source ≡ None
     → s ≡ resolved source
     → Answers known (facts_of s source o)
@@ -165,14 +183,15 @@ pub certified : (o : TransformData) (next : ℕ) (source output : Doc) (words : 
     → HasLeft settings.definitions (retained (is_in known.kept) o.typescript.only_remove_type_imports next source) output
     → taken ≡ names_of source
     → settings ≡ settings_of source
-    → IsTableOf es (left_owners s (owners_of source))
-    → Judges words taken settings (first_moved es (owners_of output)) output None
+    → staying ≡ targets source
+    → IsTableOf es (left_owners o.typescript.only_remove_type_imports s (owners_of source))
+    → Judges words taken settings staying (first_moved es (owners_of output)) output None
     → Passes o next source output
-certified o next source output words taken settings s known es faultless table plan said left names as_source owners judged =
-    walked o next source (retained (is_in known.kept) o.typescript.only_remove_type_imports next source) output words taken settings s es faultless (left_same o next source _ known s table plan refl) left said names as_source table owners judged
+certified o next source output words taken settings staying s known es faultless table plan said left names as_source stay owners judged =
+    walked o next source (retained (is_in known.kept) o.typescript.only_remove_type_imports next source) output words taken settings staying s es faultless (left_same o next source _ known s table plan refl) left said names as_source stay table owners judged
 
 -- where it finds a difference, the source is refused for it
-pub refused_so : (o : TransformData) (next : ℕ) (source output : Doc) (words : List Entry) (taken : List (List ℕ)) (settings : SettingsData) (s : Scoped) (known : Facts) (es : OwnerList) (came : Option Refusal)
+pub refused_so : (o : TransformData) (next : ℕ) (source output : Doc) (words : List Entry) (taken : List (List ℕ)) (settings : SettingsData) (staying : List ℕ) (s : Scoped) (known : Facts) (es : OwnerList) (came : Option Refusal)
     → fault_of source ≡ None
     → s ≡ resolved source
     → Answers known (facts_of s source o)
@@ -180,17 +199,18 @@ pub refused_so : (o : TransformData) (next : ℕ) (source output : Doc) (words :
     → HasLeft settings.definitions (retained (is_in known.kept) o.typescript.only_remove_type_imports next source) output
     → taken ≡ names_of source
     → settings ≡ settings_of source
-    → IsTableOf es (left_owners s (owners_of source))
-    → IsFailure came words taken settings (first_moved es (owners_of output)) output
+    → staying ≡ targets source
+    → IsTableOf es (left_owners o.typescript.only_remove_type_imports s (owners_of source))
+    → IsFailure came words taken settings staying (first_moved es (owners_of output)) output
     → IsHindrance came o next source
-refused_so o next source output words taken settings s known es None faultless table plan said left names as_source owners judged = tt
-refused_so o next source output words taken settings s known es (Some json) faultless table plan said left names as_source owners judged = absurd judged
-refused_so o next source output words taken settings s known es (Some (shape place)) faultless table plan said left names as_source owners judged = absurd judged
-refused_so o next source output words taken settings s known es (Some (unbuilt_form kind)) faultless table plan said left names as_source owners judged = absurd judged
-refused_so o next source output words taken settings s known es (Some (misplaced_node m place)) faultless table plan said left names as_source owners judged = absurd judged
-refused_so o next source output words taken settings s known es (Some (captured_name name place)) faultless table plan said left names as_source owners judged = absurd judged
-refused_so o next source output words taken settings s known es (Some (uncertified d)) faultless table plan said left names as_source owners judged =
-    failed o next source (retained (is_in known.kept) o.typescript.only_remove_type_imports next source) output words taken settings s es faultless (left_same o next source _ known s table plan refl) left said names as_source table owners d judged
+refused_so o next source output words taken settings staying s known es None faultless table plan said left names as_source stay owners judged = tt
+refused_so o next source output words taken settings staying s known es (Some json) faultless table plan said left names as_source stay owners judged = absurd judged
+refused_so o next source output words taken settings staying s known es (Some (shape place)) faultless table plan said left names as_source stay owners judged = absurd judged
+refused_so o next source output words taken settings staying s known es (Some (unbuilt_form kind)) faultless table plan said left names as_source stay owners judged = absurd judged
+refused_so o next source output words taken settings staying s known es (Some (misplaced_node m place)) faultless table plan said left names as_source stay owners judged = absurd judged
+refused_so o next source output words taken settings staying s known es (Some (captured_name name place)) faultless table plan said left names as_source stay owners judged = absurd judged
+refused_so o next source output words taken settings staying s known es (Some (uncertified d)) faultless table plan said left names as_source stay owners judged =
+    failed o next source (retained (is_in known.kept) o.typescript.only_remove_type_imports next source) output words taken settings staying s es faultless (left_same o next source _ known s table plan refl) left said names as_source stay table owners d judged
 
 -- ---- a fault of a source is a form, a place or a name
 
@@ -232,12 +252,40 @@ fault_hinders came o next source h = hinders came h
     hinders None h = tt
     hinders (Some r) h = named r h
 
+-- ---- where nothing is told
+
+none_told : (ts : List ℕ) → replicate (length ts) wrapper_stays ≡ [] → ts ≡ []
+none_told [] h = refl
+none_told (t ∷ ts) h = cc
+
+-- plain beside no wrappers is plain
+plain_then : (source output : Doc) → is_plain_beside output (is_listed (targets source)) ≡ true → diagnostics source ≡ [] → is_plain output ≡ true
+plain_then source output h none =
+    sym (plain_beside_nothing output (is_listed (targets source)) (λ n. ap (λ ts. is_listed ts n) (none_told (targets source) none))) ∙ h
+
 -- ---- what the bytes say
 
 module _ (options : TransformData) (bytes : List ℕ) (source : Doc) (next : ℕ) (read : reading bytes ≡ tree source next) where
-  pub passes_lowers : (text : List ℕ) (output : Doc) → Passes options next source output → text ≡ text_of output → Lowers options bytes text
-  passes_lowers text output p written =
-      record { source = source; next = next; output = output; spelled = read; lowers = p.lowers; valid = p.judged.0; plain = p.judged.1; settings = p.judged.2; same_word = sym p.judged.3; same_owners = p.owners; written = written }
+  pub passes_lowers : (told : List OxcDiagnostic) (text : List ℕ) (output : Doc) → Passes options next source output → told ≡ diagnostics source → text ≡ text_of output → Lowers options bytes told text
+  passes_lowers told text output p all_told written =
+      let plain = λ (none : told ≡ []). plain_then source output p.judged.1 (sym all_told ∙ none) in
+      let language = right_language (differs (is_script source) (is_script output)) (has_language (is_definition_file source) output) _ _ p.judged.2 in
+      record {
+        source = source;
+        next = next;
+        output = output;
+        spelled = read;
+        all_told = all_told;
+        left = p.left;
+        lowers = λ none. lowered_is (is_definition_file source) (module_left options next source) output p.left p.judged.0 (plain none) language;
+        valid = p.judged.0;
+        plain_beside = p.judged.1;
+        plain = plain;
+        settings = p.judged.2;
+        same_word = sym p.judged.3;
+        same_owners = p.owners;
+        written = written;
+      }
 
   pub passes_accepts : (output : Doc) → Passes options next source output → Accepts bytes
   passes_accepts output p = record { source = source; next = next; spelled = read; faultless = p.faultless }
@@ -253,3 +301,19 @@ module _ (options : TransformData) (bytes : List ℕ) (source : Doc) (next : ℕ
   pub hindrance_refuses : (came : Option Refusal) → IsHindrance came options next source → IsReasonFor came options bytes
   hindrance_refuses None h = tt
   hindrance_refuses (Some r) h = hindered r h
+
+-- a plain tree as it is lowered
+as_it_is : (o : TransformData) (next : ℕ) (source : Doc) → o.typescript.only_remove_type_imports ≡ true → IsPlainSource source → lowered o next source ≡ as_javascript source
+as_it_is o next source all plain =
+    ap (λ b. without_types b (module_left o next source)) plain.code
+    ∙ (ap stripped (ap (λ b. retained (is_in (kept (resolved source) source o.typescript)) b next source) all ∙ all_retained source o.typescript next all plain)
+    ∙ left_as_javascript source plain)
+
+-- A plain tree is returned where all imports of values are kept: nothing is told, so that what came out is
+-- the source as it is lowered, and that is the source as JavaScript.
+pub returns_plain : (o : TransformData) (bytes : List ℕ) (told : List OxcDiagnostic) (text : List ℕ) → Lowers o bytes told text → ReturnsPlain o bytes text
+returns_plain o bytes told text l source next read all plain =
+    let same : l.source ≡ source = same_source bytes l.source source l.next next l.spelled read in
+    let here = subst IsPlainSource (sym same) plain in
+    let none : told ≡ [] = l.all_told ∙ ap (λ ts. replicate (length ts) wrapper_stays) (plain_has_none l.source here.plain) in
+    l.written ∙ ap text_of (l.lowers none ∙ (as_it_is o l.next l.source all here ∙ ap as_javascript same))

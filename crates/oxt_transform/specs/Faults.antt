@@ -1,6 +1,7 @@
 -- What a fault says of the bytes.
 pub use Rattle.oxt_check.specs.Faults.{refusal_in}
 use Rattle.std.specs.Prelude.{ℕ, List, Option, None, Some, ⊤}
+use Rattle.oxt_diagnostic.specs.declared.diagnostic.OxcDiagnostic.{OxcDiagnostic}
 use Rattle.oxt_json.specs.declared.read.ReadFault.{ReadFault}
 use Rattle.oxt_json.specs.declared.read.ReadFault.TheVariants as read_fault
 use Rattle.oxt_options.specs.Options.{TransformData}
@@ -22,3 +23,7 @@ IsReasonFor (Some r) o bytes = Refuses r o bytes
 -- the bytes of an answer
 abbrev pub text_in : TransformerReturn → List ℕ
 text_in r = r.bytes.items
+
+-- the diagnostics of an answer
+abbrev pub told_in : TransformerReturn → List OxcDiagnostic
+told_in r = r.diagnostics.items

@@ -4,7 +4,8 @@ use Rattle.oxt_annotations.specs.Stripped.{stripped}
 use Rattle.oxt_check.specs.Faults.{first_fault}
 use Rattle.oxt_check.specs.Refusals.{Refusal}
 use Rattle.oxt_kept.specs.Kept.{kept}
-use Rattle.oxt_modules.specs.Retained.{is_definition_file, retained}
+use Rattle.oxt_modules.specs.Retained.{retained}
+use Rattle.oxt_tree.specs.Syntax.{is_definition_file}
 use Rattle.oxt_options.specs.Options.{TransformData}
 use Rattle.oxt_plan.specs.Facts.{is_in}
 use Rattle.oxt_resolve.specs.Resolved.{resolved}

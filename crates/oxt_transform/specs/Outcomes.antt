@@ -1,6 +1,8 @@
 -- What a run answers, and what that says of the words, the source and the sinks.
-use Rattle.std.specs.Prelude.{◌≡◌, ◌≤◌, ℕ, Bool, true, false, List, [], ◌∷◌, ◌++◌, length, map, Option, Some, codes, ⊤}
+use Rattle.std.specs.Prelude.{◌≡◌, ◌≤◌, ℕ, Bool, true, false, not, ◌==◌, List, [], ◌∷◌, ◌++◌, length, map, Option, Some, codes, ⊤}
 use Rattle.std.specs.Io.KnownBytes.{Appends}
+use Rattle.oxt_diagnostic.specs.Line.{lines_of}
+use Rattle.oxt_diagnostic.specs.declared.diagnostic.OxcDiagnostic.{OxcDiagnostic}
 use Rattle.oxt_flags.specs.Flags.{parsed}
 use Rattle.oxt_io.specs.Counts.{Rose}
 use Rattle.oxt_io.specs.Passed.{GaveAll, AppendsPrefix}
@@ -14,7 +16,7 @@ use Rattle.oxt_check.specs.declared.fault.Fault.{Fault}
 use Rattle.oxt_transform.specs.declared.program.Outcome.{Outcome}
 use Rattle.oxt_tree.specs.Names.{name_bytes}
 use Rattle.oxt_tree.specs.declared.name.Name.{Name}
-use Rattle.oxt_transform.specs.declared.program.Outcome.TheVariants.{Done, Refused, Usage, ReadFault, WriteFault, Memory, TooLong}
+use Rattle.oxt_transform.specs.declared.program.Outcome.TheVariants.{Done, Diagnosed, Refused, Usage, ReadFault, WriteFault, Memory, TooLong}
 
 -- the most bytes that a source may hold
 abbrev pub limit : ℕ
@@ -31,6 +33,7 @@ options_in words = parsed (map name_bytes words)
 -- the exit status
 abbrev pub status_of : Outcome → ℕ
 status_of Done = 0
+status_of Diagnosed = 1
 status_of (Refused f) = 2
 status_of Usage = 3
 status_of ReadFault = 4
@@ -43,6 +46,16 @@ status_of TooLong = 7
 abbrev pub OnDone : Outcome → Type 0 → Type 0
 OnDone Done P = P
 OnDone _ P = ⊤
+
+abbrev pub OnDiagnosed : Outcome → Type 0 → Type 0
+OnDiagnosed Diagnosed P = P
+OnDiagnosed _ P = ⊤
+
+-- for the outcomes under which a tree goes to standard output
+abbrev pub OnAnswer : Outcome → Type 0 → Type 0
+OnAnswer Done P = P
+OnAnswer Diagnosed P = P
+OnAnswer _ P = ⊤
 
 abbrev pub IfRefused : Outcome → (Fault → Type 0) → Type 0
 IfRefused (Refused f) P = P f
@@ -67,6 +80,7 @@ OnTooLong _ P = ⊤
 -- for the outcomes under which nothing goes to standard output
 abbrev pub OnNoAnswer : Outcome → Type 0 → Type 0
 OnNoAnswer Done P = ⊤
+OnNoAnswer Diagnosed P = ⊤
 OnNoAnswer WriteFault P = ⊤
 OnNoAnswer _ P = P
 
@@ -90,11 +104,12 @@ is_uncertified (Some (uncertified difference)) = true
 is_uncertified r = false
 
 -- the tree was lowered, or was not certified, or memory ran out
-abbrev pub IsDoneUncertifiedOrMemory : Outcome → Type 0
-IsDoneUncertifiedOrMemory Done = ⊤
-IsDoneUncertifiedOrMemory (Refused f) = is_uncertified (refusal_in f) ≡ true
-IsDoneUncertifiedOrMemory Memory = ⊤
-IsDoneUncertifiedOrMemory _ = ⊥
+abbrev pub IsAnswerUncertifiedOrMemory : Outcome → Type 0
+IsAnswerUncertifiedOrMemory Done = ⊤
+IsAnswerUncertifiedOrMemory Diagnosed = ⊤
+IsAnswerUncertifiedOrMemory (Refused f) = is_uncertified (refusal_in f) ≡ true
+IsAnswerUncertifiedOrMemory Memory = ⊤
+IsAnswerUncertifiedOrMemory _ = ⊥
 
 abbrev pub OnMemory : Outcome → Type 0 → Type 0
 OnMemory Memory P = P
@@ -105,10 +120,11 @@ IsUsageOrWriteFault Usage = ⊤
 IsUsageOrWriteFault WriteFault = ⊤
 IsUsageOrWriteFault _ = ⊥
 
-abbrev pub IsDoneOrWriteFault : Outcome → Type 0
-IsDoneOrWriteFault Done = ⊤
-IsDoneOrWriteFault WriteFault = ⊤
-IsDoneOrWriteFault _ = ⊥
+abbrev pub IsAnswerOrWriteFault : Outcome → Type 0
+IsAnswerOrWriteFault Done = ⊤
+IsAnswerOrWriteFault Diagnosed = ⊤
+IsAnswerOrWriteFault WriteFault = ⊤
+IsAnswerOrWriteFault _ = ⊥
 
 abbrev pub IsRefusedMemoryOrWriteFault : Outcome → Type 0
 IsRefusedMemoryOrWriteFault (Refused f) = ⊤
@@ -124,11 +140,22 @@ input_outcome input.TooLong = TooLong
 
 -- ---- the facts
 
--- The bytes were lowered under these options to a text, which stands here with a line feed.
-pub record LowersToLine (options : TransformData) (bytes line : List ℕ) : Type 0 where
+-- there are diagnostics
+abbrev pub is_any : List OxcDiagnostic → Bool
+is_any ds = not (length ds == 0)
+
+-- a text with a line feed, and a line for each diagnostic
+abbrev pub answer_of : List ℕ → List OxcDiagnostic → List ℕ
+answer_of text ds = (text ++ 10 ∷ []) ++ lines_of ds
+
+-- The bytes were lowered under these options to a text, which stands here with a line feed and the lines of
+-- the diagnostics, if there are any.
+pub record LowersToLines (options : TransformData) (bytes lines : List ℕ) (some_told : Bool) : Type 0 where
+  pub told : List OxcDiagnostic
   pub text : List ℕ
-  pub lowered : Lowers options bytes text
-  pub ended : line ≡ text ++ 10 ∷ []
+  pub lowered : Lowers options bytes told text
+  pub some : is_any told ≡ some_told
+  pub ended : lines ≡ answer_of text told
 
 -- The fault handed on is the one that came, and err took its line.
 pub record Reported (came named : Option Refusal) (taken taken' : Option (List ℕ)) : Type 0 where
@@ -137,16 +164,19 @@ pub record Reported (came named : Option Refusal) (taken taken' : Option (List �
   pub is : named ≡ Some refusal
   pub wrote : Appends taken taken' (line_of refusal)
 
--- All that the source held spells a tree that was lowered under the options of the words, and out took its text and a line feed.
-pub record Answered (words : List Name) (left left' taken taken' : Option (List ℕ)) : Type 0 where
+-- All that the source held spells a tree that was lowered under the options of the words, and out took its text with a
+-- line feed, and a line for each diagnostic, if there are any.
+pub record Answered (words : List Name) (some_told : Bool) (left left' taken taken' : Option (List ℕ)) : Type 0 where
   pub options : TransformData
   pub given : options_in words ≡ Some options
   pub bytes : List ℕ
+  pub told : List OxcDiagnostic
   pub text : List ℕ
   pub read : GaveAll left left' bytes
   pub within : length bytes ≤ limit
-  pub lowered : Lowers options bytes text
-  pub wrote : Appends taken taken' (text ++ 10 ∷ [])
+  pub lowered : Lowers options bytes told text
+  pub some : is_any told ≡ some_told
+  pub wrote : Appends taken taken' (answer_of text told)
 
 -- All that the source held is refused for this reason under the options of the words, and err took its line.
 pub record RefusedFor (words : List Name) (reason : Option Refusal) (left left' taken taken' : Option (List ℕ)) : Type 0 where
@@ -171,15 +201,16 @@ pub record ReportCut (came : Option Refusal) (taken taken' : Option (List ℕ)) 
   pub is : came ≡ Some refusal
   pub prefix : AppendsPrefix taken taken' (line_of refusal)
 
--- Out failed within the text of the plain tree; err was left alone.
+-- Out failed within the text of the plain tree and the lines behind it; err was left alone.
 pub record AnswerCut (words : List Name) (left left' taken taken' message message' : Option (List ℕ)) : Type 0 where
   pub options : TransformData
   pub given : options_in words ≡ Some options
   pub bytes : List ℕ
+  pub told : List OxcDiagnostic
   pub text : List ℕ
   pub read : GaveAll left left' bytes
-  pub lowered : Lowers options bytes text
-  pub prefix : AppendsPrefix taken taken' (text ++ 10 ∷ [])
+  pub lowered : Lowers options bytes told text
+  pub prefix : AppendsPrefix taken taken' (answer_of text told)
   pub quiet : message' ≡ message
 
 -- Err failed within the line for a refusal; out was left alone.

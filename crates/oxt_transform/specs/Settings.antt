@@ -1,6 +1,6 @@
 -- The settings of a program, which are no part of its word.
 use Rattle.std.specs.Prelude.{List, ℕ, Bool, true, false, not, if◌then◌else◌, Option, None, Some, codes}
-use Rattle.oxt_modules.specs.Retained.{is_definition_file}
+use Rattle.oxt_tree.specs.Syntax.{is_definition_file}
 use Rattle.oxt_transform.specs.declared.certificate.Settings.{Settings}
 use Rattle.oxt_tree.specs.Doc.{Doc}
 use Rattle.oxt_tree.specs.Fields.{field_of, is_text}

@@ -2,7 +2,6 @@
 ghost use Rattle.std.specs.Prelude.{◌≡◌, IfOk, option_map};
 ghost use Rattle.oxt_transform.specs.Settings.{differs, has_language, is_javascript, is_script, settings_of, settings_view, wrong_setting};
 ghost use Rattle.oxt_hygiene.specs.Keeps.{first_moved};
-ghost use Rattle.oxt_modules.specs.Retained.{is_definition_file};
 ghost use Rattle.oxt_scope.specs.Owners.{owners_of};
 ghost use Rattle.oxt_tree.specs.Names.{name_bytes};
 ghost use Rattle.oxt_transform.specs.Refusals.{Judges, difference_in};
@@ -16,12 +15,13 @@ use oxt_facts::facts::Facts;
 use oxt_hygiene::source_owners::SourceOwners;
 use oxt_item::compare::{Difference, first_difference};
 use oxt_item::item::Item;
+use oxt_targets::beside::first_typescript_beside;
+use oxt_targets::targets::WrappedTargets;
 use oxt_tree::ids::OutOfMemory;
 use oxt_tree::name::Name;
 use oxt_tree::tree::Node;
 use oxt_uid::uid::UidNames;
 use oxt_valid::misfit::first_misfit;
-use oxt_valid::remains::first_typescript;
 use oxt_word::word::word_of;
 use std::alloc::Global;
 
@@ -41,30 +41,31 @@ impl Settings {
     {
         Settings {
             script: is_script(program),
-            definitions: is_definition_file(program),
+            definitions: program.is_definition_file(),
         }
     }
 }
 
 /// How the tree fails to be of the grammar, plain, of the right settings, of the effect word `before`, and to
-/// leave each name its owner, in this order; none where it does not fail. `names`, `settings` and
-/// `owners` are those of the source.
+/// leave each name its owner, in this order; none where it does not fail. `names`, `settings`, `owners` and the
+/// wrapped `targets`, which may stay, are those of the source.
 pub fn find_mismatch(
     alloc: Global,
     before: &[Item],
     names: &UidNames,
     settings: Settings,
+    targets: &WrappedTargets,
     owners: &SourceOwners,
     output: &Node,
 ) -> Result<Option<Mismatch>, OutOfMemory>
-    ensures { IfOk result (λ mismatch. Judges (entries before.now) names.now (settings_view settings)
+    ensures { IfOk result (λ mismatch. Judges (entries before.now) names.now (settings_view settings) targets.now
         (first_moved owners.now (owners_of (node_doc output.now))) (node_doc output.now)
         (option_map difference_in mismatch)) }
 {
     if let Some(place) = first_misfit(alloc, output)? {
         return Ok(Some(Mismatch::Shape { place }));
     }
-    if let Some(place) = first_typescript(alloc, output)? {
+    if let Some(place) = first_typescript_beside(alloc, targets, output)? {
         return Ok(Some(Mismatch::Plain { place }));
     }
     if let Some(place) = wrong_setting(alloc, settings, output)? {
@@ -111,17 +112,10 @@ fn has_language(definitions: bool, output: &Node) -> bool
     ensures { result ≡ has_language definitions (node_doc output.now) }
 {
     if definitions {
-        is_definition_file(output)
+        output.is_definition_file()
     } else {
         is_javascript(output)
     }
-}
-
-/// Whether the program is a file of definitions.
-fn is_definition_file(program: &Node) -> bool
-    ensures { result ≡ is_definition_file (node_doc program.now) }
-{
-    program.holds_text("lang", "dts")
 }
 
 /// Whether the program is a script, and no module.

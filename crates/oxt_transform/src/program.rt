@@ -1,12 +1,12 @@
 //! The program's one call: from a source to two sinks.
-ghost use Rattle.std.specs.Prelude.{◌≡◌, ◌≤◌, ◌⊎◌, List, [], ◌∷◌, ◌++◌, length, None, Some, IfOk, IfErr, is_some, true};
+ghost use Rattle.std.specs.Prelude.{◌≡◌, ◌≤◌, ◌⊎◌, List, [], ◌∷◌, ◌++◌, length, None, Some, IfOk, IfErr, is_some, true, false};
 ghost use Rattle.std.specs.Io.KnownBytes.{Appends};
 ghost use Rattle.oxt_io.specs.Counts.{Rose};
 ghost use Rattle.oxt_io.specs.Passed.{GavePast};
 ghost use Rattle.oxt_options.specs.Options.{transform_view};
 ghost use Rattle.oxt_transform.specs.Faults.{refusal_in, IsReasonFor};
 ghost use Rattle.oxt_transform.specs.Lowering.{Lowers};
-ghost use Rattle.oxt_transform.specs.Outcomes.{limit, options_in, usage_line, status_of, OnDone, IfRefused, OnUsage, OnReadFault, OnWriteFault, OnTooLong, OnNoAnswer, OnNoMessage, UnlessUsage, IsDoneUncertifiedOrMemory, Answered, RefusedFor, CutOff, OnMemory, IsUsageOrWriteFault, IsDoneOrWriteFault, IsRefusedMemoryOrWriteFault, input_outcome, LowersToLine, Reported, ReportCut, AnswerCut, RefusalCut, UsageCut, NothingStands};
+ghost use Rattle.oxt_transform.specs.Outcomes.{limit, options_in, usage_line, status_of, OnDone, OnDiagnosed, OnAnswer, IfRefused, OnUsage, OnReadFault, OnWriteFault, OnTooLong, OnNoAnswer, OnNoMessage, UnlessUsage, IsAnswerUncertifiedOrMemory, Answered, RefusedFor, CutOff, OnMemory, IsUsageOrWriteFault, IsAnswerOrWriteFault, IsRefusedMemoryOrWriteFault, input_outcome, LowersToLines, Reported, ReportCut, AnswerCut, RefusalCut, UsageCut, NothingStands};
 ghost use Rattle.oxt_transform.specs.Refusals.{line_of};
 
 use crate::fault::Fault;
@@ -27,6 +27,8 @@ pub const USAGE: &str = "usage: oxt [flags] < tree.json\n";
 pub enum Outcome {
     /// The plain tree was written.
     Done,
+    /// The tree was written, and a line for each diagnostic behind it.
+    Diagnosed,
     /// The bytes were refused, and a line says why; it is never for want of memory.
     Refused(Fault),
     /// The words were not taken, and a line says how the program is called.
@@ -48,6 +50,7 @@ impl Outcome {
     {
         match self {
             Outcome::Done => 0,
+            Outcome::Diagnosed => 1,
             Outcome::Refused(_) => 2,
             Outcome::Usage => 3,
             Outcome::ReadFault => 4,
@@ -58,7 +61,8 @@ impl Outcome {
     }
 }
 
-/// Reads the tree from `source`, lowers it, and writes it to `out`, or a line that says why not to `err`.
+/// Reads the tree from `source`, lowers it, and writes it to `out` with the lines of the diagnostics behind it, or a line
+/// that says why not to `err`.
 ///
 /// `words` are the words after the program's name, which say the options. All bytes are made before the
 /// first is written.
@@ -71,7 +75,9 @@ pub fn run<S: Source, O: Sink, E: Sink>(
 ) -> Outcome
     // What was read was lowered and written.
     ensures done { OnDone result
-        (Answered words.now (S.left source.old) (S.left source.new) (O.taken out.old) (O.taken out.new)) }
+        (Answered words.now false (S.left source.old) (S.left source.new) (O.taken out.old) (O.taken out.new)) }
+    ensures diagnosed { OnDiagnosed result
+        (Answered words.now true (S.left source.old) (S.left source.new) (O.taken out.old) (O.taken out.new)) }
 
     // Each other answer has its cause.
     ensures refused { IfRefused result (λ f. RefusedFor words.now (refusal_in f)
@@ -94,7 +100,7 @@ pub fn run<S: Source, O: Sink, E: Sink>(
     // Where nothing stands in the way, the tree is lowered, or fails its test, or memory runs out.
     ensures completes { NothingStands words.now (S.left source.old)
         (S.faults source.old) (S.faults source.new) (O.faults out.old) (O.faults out.new)
-        (E.faults err.old) (E.faults err.new) → IsDoneUncertifiedOrMemory result }
+        (E.faults err.old) (E.faults err.new) → IsAnswerUncertifiedOrMemory result }
 
     // Nothing else is written.
     ensures quiet_out { OnNoAnswer result (O.taken out.new ≡ O.taken out.old) }
@@ -109,8 +115,8 @@ pub fn run<S: Source, O: Sink, E: Sink>(
         Ok(bytes) => bytes,
         Err(fault) => return outcome_of_input(fault),
     };
-    match lowered_line(alloc, bytes.as_slice(), &options) {
-        Ok(line) => answer(out, line.as_slice()),
+    match lowered_lines(alloc, bytes.as_slice(), &options) {
+        Ok(Reply { lines, is_told }) => answer(out, lines.as_slice(), is_told),
         Err(fault) => refuse(alloc, fault, err),
     }
 }
@@ -139,28 +145,45 @@ fn outcome_of_input(fault: InputFault) -> Outcome
     }
 }
 
-// The text of the plain tree, with a line feed.
-fn lowered_line(alloc: Global, bytes: &[u8], options: &TransformOptions) -> Result<Vec<u8>, Fault>
-    ensures lowers { IfOk result (λ line. LowersToLine (transform_view options.now) bytes.now line.items) }
+// What is to be written, and whether there are diagnostics in it.
+#[derive(Drop)]
+struct Reply {
+    lines: Vec<u8>,
+    is_told: bool,
+}
+
+// The text of the tree with a line feed, and the lines of the diagnostics.
+fn lowered_lines(alloc: Global, bytes: &[u8], options: &TransformOptions) -> Result<Reply, Fault>
+    ensures lowers { IfOk result
+        (λ r. LowersToLines (transform_view options.now) bytes.now r.lines.items r.is_told) }
     ensures refused { IfErr result
         (λ f. IsReasonFor (refusal_in f) (transform_view options.now) bytes.now) }
 {
-    let mut text = transform_text(alloc, bytes, options)?.into_text();
-    match text.push(b'\n') {
-        Ok(()) => Ok(text),
+    let lowered = transform_text(alloc, bytes, options)?;
+    let is_told = !lowered.diagnostics().is_empty();
+    match lowered.into_lines(alloc) {
+        Ok(lines) => Ok(Reply { lines, is_told }),
         Err(_) => Err(Fault::OutOfMemory),
     }
 }
 
-// Writes the plain tree.
-fn answer<O: Sink>(out: &mut O, line: &[u8]) -> Outcome
-    ensures done { OnDone result (Appends (O.taken out.old) (O.taken out.new) line.now) }
+// Writes what came out.
+fn answer<O: Sink>(out: &mut O, lines: &[u8], is_told: bool) -> Outcome
+    ensures done { OnDone result (is_told ≡ false) }
+    ensures diagnosed { OnDiagnosed result (is_told ≡ true) }
+    ensures wrote { OnAnswer result (Appends (O.taken out.old) (O.taken out.new) lines.now) }
     ensures write_fault { OnWriteFault result (CutOff (O.faults out.old) (O.faults out.new)
-        (O.taken out.old) (O.taken out.new) line.now) }
-    ensures only { IsDoneOrWriteFault result }
+        (O.taken out.old) (O.taken out.new) lines.now) }
+    ensures only { IsAnswerOrWriteFault result }
 {
-    match write_all(out, line) {
-        Ok(()) => Outcome::Done,
+    match write_all(out, lines) {
+        Ok(()) => {
+            if is_told {
+                Outcome::Diagnosed
+            } else {
+                Outcome::Done
+            }
+        }
         Err(_) => Outcome::WriteFault,
     }
 }

@@ -1,6 +1,7 @@
 //! A tree lowered: checked, its modules retained, and the passes run in one walk.
-ghost use Rattle.std.specs.Prelude.{◌≡◌, IfErr, IfOk, None, OnOk};
+ghost use Rattle.std.specs.Prelude.{◌≡◌, IfErr, IfOk, None, OnOk, length, replicate};
 ghost use Rattle.oxt_annotations.specs.Stripped.{stripped};
+ghost use Rattle.oxt_check.specs.Diagnostics.{diagnostics, wrapper_stays};
 ghost use Rattle.oxt_check.specs.Faults.{IsFaultOf, facts_of, refusal_in};
 ghost use Rattle.oxt_facts.specs.Facts.{of_source};
 ghost use Rattle.oxt_hygiene.specs.Keeps.{IsTableOf, first_moved};
@@ -11,6 +12,7 @@ ghost use Rattle.oxt_options.specs.Options.{transform_view};
 ghost use Rattle.oxt_plan.specs.Facts.{Answers, is_in};
 ghost use Rattle.oxt_resolve.specs.Resolved.{resolved};
 ghost use Rattle.oxt_scope.specs.Owners.{owners_of};
+ghost use Rattle.oxt_targets.specs.Targets.{targets};
 ghost use Rattle.oxt_transform.specs.Left.{HasLeft, fault_of};
 ghost use Rattle.oxt_transform.specs.Lowering.{Passes};
 ghost use Rattle.oxt_transform.specs.Refusals.{IsFailure, IsHindrance, Judges, names_of};
@@ -21,7 +23,9 @@ ghost use Rattle.oxt_word.specs.Word.{word};
 use crate::certificate::{Settings, find_mismatch, source_word};
 use crate::fault::Fault;
 use oxt_check::check;
+use oxt_check::diagnose::diagnostics_of;
 use oxt_ctx::context::TraverseCtx;
+use oxt_diagnostic::diagnostic::OxcDiagnostic;
 use oxt_hygiene::source_owners::SourceOwners;
 use oxt_item::item::Item;
 use oxt_modules::retain::retain_modules;
@@ -30,6 +34,7 @@ use oxt_options::state::TransformState;
 use oxt_plan::plan::Plan;
 use oxt_resolve::resolve::resolve;
 use oxt_scoping::scoping::Scoping;
+use oxt_targets::targets::WrappedTargets;
 use oxt_tree::ids::OutOfMemory;
 use oxt_tree::tree::{Node, Program};
 use oxt_typescript::typescript::lower_program;
@@ -48,11 +53,13 @@ struct Tables {
 struct Record {
     names: UidNames,
     settings: Settings,
+    targets: WrappedTargets,
     owners: SourceOwners,
 }
 
 /// Lowers the program, and tests that what comes out is a plain tree of the source's effect word in
-/// which each name has the owner that it had.
+/// which each name has the owner that it had; but wrappers around some targets stay, and the answer tells
+/// of them.
 ///
 /// # Errors
 ///
@@ -62,9 +69,10 @@ pub(crate) fn lower_by_walk(
     alloc: Global,
     program: &mut Program,
     options: &TransformOptions,
-) -> Result<(), Fault>
+) -> Result<Vec<OxcDiagnostic>, Fault>
     ensures passes { OnOk result (Passes (transform_view options.now) program.old.ids.next
         (node_doc program.old.root) (node_doc program.new.root)) }
+    ensures told { IfOk result (λ told. told.items ≡ diagnostics (node_doc program.old.root)) }
     ensures refused { IfErr result (λ f. IsHindrance (refusal_in f) (transform_view options.now)
         program.old.ids.next (node_doc program.old.root)) }
 {
@@ -72,7 +80,8 @@ pub(crate) fn lower_by_walk(
         Ok(tables) => tables,
         Err(fault) => return Err(fault),
     };
-    let held = match record_of(alloc, &program.root, &tables.scoping) {
+    let all = options.typescript.only_remove_type_imports;
+    let held = match record_of(alloc, &program.root, &tables.scoping, all) {
         Ok(held) => held,
         Err(_) => return Err(Fault::OutOfMemory),
     };
@@ -80,8 +89,8 @@ pub(crate) fn lower_by_walk(
         Ok(before) => before,
         Err(_) => return Err(Fault::OutOfMemory),
     };
-    match certify(alloc, before.as_slice(), &held, &program.root) {
-        Ok(()) => Ok(()),
+    match conclude(alloc, before.as_slice(), &held, &program.root) {
+        Ok(told) => Ok(told),
         Err(fault) => Err(fault),
     }
 }
@@ -101,18 +110,26 @@ fn tables_of(alloc: Global, program: &Program, options: &TransformOptions) -> Re
     }
 }
 
-/// What the certificate compares with.
-fn record_of(alloc: Global, source: &Node, scoping: &Scoping) -> Result<Record, OutOfMemory>
+/// What the certificate compares with, where `all` says whether all imports of values are kept.
+fn record_of(
+    alloc: Global,
+    source: &Node,
+    scoping: &Scoping,
+    all: bool,
+) -> Result<Record, OutOfMemory>
     ensures names { IfOk result (λ r. r.names ≡ names_of (node_doc source.now)) }
     ensures settings { IfOk result (λ r. settings_view r.settings ≡ settings_of (node_doc source.now)) }
-    ensures owners { IfOk result (λ r. IsTableOf r.owners (left_owners scoping.now (owners_of (node_doc source.now)))) }
+    ensures targets { IfOk result (λ r. r.targets ≡ targets (node_doc source.now)) }
+    ensures owners { IfOk result (λ r. IsTableOf r.owners (left_owners all scoping.now (owners_of (node_doc source.now)))) }
 {
     let settings = Settings::of(source);
     let names = UidNames::of_tree(alloc, source)?;
-    let owners = SourceOwners::of(alloc, source, scoping)?;
+    let targets = WrappedTargets::of(alloc, source)?;
+    let owners = SourceOwners::of(alloc, source, scoping, all)?;
     Ok(Record {
         names,
         settings,
+        targets,
         owners,
     })
 }
@@ -154,19 +171,40 @@ fn retain_and_read(
     source_word(alloc, &program.root)
 }
 
+/// Tests the tree that was made, and says what the writer of the source is told.
+fn conclude(
+    alloc: Global,
+    before: &[Item],
+    held: &Record,
+    output: &Node,
+) -> Result<Vec<OxcDiagnostic>, Fault>
+    ensures passed { OnOk result (Judges (entries before.now) held.now.names (settings_view held.now.settings) held.now.targets
+        (first_moved held.now.owners (owners_of (node_doc output.now))) (node_doc output.now) None) }
+    ensures told { IfOk result (λ told. told.items ≡ replicate (length held.now.targets) wrapper_stays) }
+    ensures failed { IfErr result (λ f. IsFailure (refusal_in f) (entries before.now) held.now.names
+        (settings_view held.now.settings) held.now.targets
+        (first_moved held.now.owners (owners_of (node_doc output.now))) (node_doc output.now)) }
+{
+    match certify(alloc, before, held, output) {
+        Ok(()) => Ok(diagnostics_of(alloc, &held.targets)?),
+        Err(fault) => Err(fault),
+    }
+}
+
 /// Tests the tree that was made.
 fn certify(alloc: Global, before: &[Item], held: &Record, output: &Node) -> Result<(), Fault>
-    ensures passed { OnOk result (Judges (entries before.now) held.now.names (settings_view held.now.settings)
+    ensures passed { OnOk result (Judges (entries before.now) held.now.names (settings_view held.now.settings) held.now.targets
         (first_moved held.now.owners (owners_of (node_doc output.now))) (node_doc output.now) None) }
     ensures failed { IfErr result (λ f. IsFailure (refusal_in f) (entries before.now) held.now.names
-        (settings_view held.now.settings) (first_moved held.now.owners (owners_of (node_doc output.now)))
-        (node_doc output.now)) }
+        (settings_view held.now.settings) held.now.targets
+        (first_moved held.now.owners (owners_of (node_doc output.now))) (node_doc output.now)) }
 {
     match find_mismatch(
         alloc,
         before,
         &held.names,
         held.settings,
+        &held.targets,
         &held.owners,
         output,
     )? {

@@ -49,10 +49,15 @@ is_typescript_syntax k ds =
     kind_in category.Wrapper k
     || (is_erased k ds || is_erased_node (named (codes "declaration") k ds))
 
--- A statement that stands for nothing at run time: a type alias, an interface, or variables that
--- are only declared.
+-- the program of a file of definitions
+abbrev pub is_definition_file : Doc → Bool
+is_definition_file d = is_text (codes "dts") (field_of (codes "lang") d)
+
+-- A declaration that stands for nothing at run time: by its kind, by `declare` or `type`, or for want of a body.
 abbrev pub is_mere_declaration : Doc → Bool
-is_mere_declaration d =
-    is_kind kind.TSTypeAliasDeclaration d
-    || (is_kind kind.TSInterfaceDeclaration d
-    || (is_kind kind.VariableDeclaration d && is_set (field_of (codes "declare") d)))
+is_mere_declaration nil = false
+is_mere_declaration (flag b) = false
+is_mere_declaration (number n) = false
+is_mere_declaration (text t) = false
+is_mere_declaration (list ds) = false
+is_mere_declaration (node k i b e ds) = kind_in category.Declaration k && is_erased k ds

@@ -2,7 +2,7 @@
 ghost use Rattle.std.specs.Prelude.{◌≡◌, codes};
 ghost use Rattle.std.specs.List.{list_any};
 ghost use Rattle.oxt_table.specs.Places.{same_kind};
-ghost use Rattle.oxt_tree.specs.Syntax.{erased_kinds, is_erased_kind, is_type_only, lacks_body, is_erased, is_erased_node, is_mere_declaration, is_typescript_syntax};
+ghost use Rattle.oxt_tree.specs.Syntax.{erased_kinds, is_erased_kind, is_type_only, lacks_body, is_erased, is_erased_node, is_definition_file, is_mere_declaration, is_typescript_syntax};
 ghost use Rattle.oxt_tree.specs.View.{docs_in, field_in, node_doc, part_doc};
 
 use crate::tree::{Node, Part};
@@ -19,7 +19,7 @@ impl Node {
     }
 
     /// Whether it is erased by its kind, by `declare` or `type`, or for want of a body.
-    fn is_erased(&self) -> bool
+    pub fn is_erased(&self) -> bool
         ensures { result ≡ is_erased self.now.kind (docs_in self.now.parts.items) }
     {
         is_erased_kind(self.kind)
@@ -29,7 +29,7 @@ impl Node {
     }
 
     /// Whether it is an import or an export of types alone.
-    fn is_type_only(&self) -> bool
+    pub fn is_type_only(&self) -> bool
         ensures { result ≡ is_type_only self.now.kind (docs_in self.now.parts.items) }
     {
         self.holds_text("importKind", "type") || self.holds_text("exportKind", "type")
@@ -47,14 +47,19 @@ impl Node {
 }
 
 impl Node {
-    /// Whether it is a statement that stands for nothing at run time: a type alias, an interface,
-    /// or variables that are only declared.
+    /// Whether it is the program of a file of definitions, of which nothing is there at run time.
+    pub fn is_definition_file(&self) -> bool
+        ensures { result ≡ is_definition_file (node_doc self.now) }
+    {
+        self.holds_text("lang", "dts")
+    }
+
+    /// Whether it is a declaration that stands for nothing at run time: by its kind, by `declare` or
+    /// `type`, or for want of a body.
     pub fn is_mere_declaration(&self) -> bool
         ensures { result ≡ is_mere_declaration (node_doc self.now) }
     {
-        self.kind.is(Kind::TSTypeAliasDeclaration)
-            || (self.kind.is(Kind::TSInterfaceDeclaration)
-                || (self.kind.is(Kind::VariableDeclaration) && self.flag("declare")))
+        Category::Declaration.contains(self.kind) && self.is_erased()
     }
 }
 

@@ -1,53 +1,29 @@
 -- Looking through lists of parts for the first form.
 use Rattle.std.proofs.Common.{◌≡◌, ℕ, zero, suc, ◌+◌, ◌<◌, ◌≤◌, List, [], ◌∷◌, length, get_or, drop, map, min, None, refl, ap, sym, add-one, arith}
 use Rattle.std.specs.Option.{option_or}
-use Rattle.oxt_unbuilt.specs.Unbuilt.{field_form, fields_form, form_among, form_below, form_in}
+use Rattle.oxt_unbuilt.specs.Unbuilt.{field_form, fields_form, form_among, unbuilt}
 use Rattle.oxt_table.specs.Field.{Field, row_view}
-use Rattle.oxt_table.specs.declared.holds.Holds.{Holds}
 use Rattle.oxt_table.specs.declared.holds.Row.{Row}
 use Rattle.oxt_table.specs.declared.kind.Kind.{Kind}
 use Rattle.oxt_tree.specs.Doc.{Docs, no_docs, doc}
 use Rattle.oxt_tree.specs.View.{docs_in, part_doc}
 use Rattle.oxt_tree.specs.declared.tree.Part.{Part}
 
-among_next : (h : Holds) (ps : List Part) (i : ℕ) (p : Part) → i < length ps → p ≡ get_or ps i p → form_among (docs_in (drop i ps)) h ≡ option_or (form_in (part_doc p) h) (form_among (docs_in (drop (suc i) ps)) h)
-among_next h [] i p lt here = absurd (omega arith)
-among_next h (p' ∷ ps) zero p lt here = ap (λ x. option_or (form_in (part_doc x) h) (form_among (docs_in ps) h)) (sym here)
-among_next h (p' ∷ ps) (suc i) p lt here = among_next h ps i p (omega arith) here
+among_next : (ps : List Part) (i : ℕ) (p : Part) → i < length ps → p ≡ get_or ps i p → form_among (docs_in (drop i ps)) ≡ option_or (unbuilt (part_doc p)) (form_among (docs_in (drop (suc i) ps)))
+among_next [] i p lt here = absurd (omega arith)
+among_next (p' ∷ ps) zero p lt here = ap (λ x. option_or (unbuilt (part_doc x)) (form_among (docs_in ps))) (sym here)
+among_next (p' ∷ ps) (suc i) p lt here = among_next ps i p (omega arith) here
 
 -- one more element
-pub among_more : (h : Holds) (ps : List Part) (i : ℕ) (p : Part) → i < length ps → p ≡ get_or ps i p → form_among (docs_in (drop i ps)) h ≡ option_or (form_in (part_doc p) h) (form_among (docs_in (drop (i + 1) ps)) h)
-among_more h ps i p lt here = rw add-one (among_next h ps i p lt here)
+pub among_more : (ps : List Part) (i : ℕ) (p : Part) → i < length ps → p ≡ get_or ps i p → form_among (docs_in (drop i ps)) ≡ option_or (unbuilt (part_doc p)) (form_among (docs_in (drop (i + 1) ps)))
+among_more ps i p lt here = rw add-one (among_next ps i p lt here)
 
 -- no more elements
-pub among_done : (h : Holds) (ps : List Part) (i : ℕ) → length ps ≤ i → form_among (docs_in (drop i ps)) h ≡ None
-among_done h [] zero le = refl
-among_done h [] (suc i) le = refl
-among_done h (p ∷ ps) zero le = absurd (omega arith)
-among_done h (p ∷ ps) (suc i) le = among_done h ps i (omega arith)
-
-below_next : (rs : List Row) (ps : List Part) (i : ℕ) (r : Row) (p : Part) → i < length rs → i < length ps → p ≡ get_or ps i p → form_below (docs_in (drop i ps)) (map row_view (drop i rs)) ≡ option_or (form_in (part_doc p) (get_or rs i r).holds) (form_below (docs_in (drop (suc i) ps)) (map row_view (drop (suc i) rs)))
-below_next [] ps i r p lt lt' here = absurd (omega arith)
-below_next (r' ∷ rs) [] i r p lt lt' here = absurd (omega arith)
-below_next (r' ∷ rs) (p' ∷ ps) zero r p lt lt' here = ap (λ x. option_or (form_in (part_doc x) r'.holds) (form_below (docs_in ps) (map row_view rs))) (sym here)
-below_next (r' ∷ rs) (p' ∷ ps) (suc i) r p lt lt' here = below_next rs ps i r p (omega arith) (omega arith) here
-
--- one more field to look into
-pub below_more : (rs : List Row) (ps : List Part) (i : ℕ) (r : Row) (p : Part) → i < length rs → i < length ps → p ≡ get_or ps i p → form_below (docs_in (drop i ps)) (map row_view (drop i rs)) ≡ option_or (form_in (part_doc p) (get_or rs i r).holds) (form_below (docs_in (drop (i + 1) ps)) (map row_view (drop (i + 1) rs)))
-below_more rs ps i r p lt lt' here = rw add-one (below_next rs ps i r p lt lt' here)
-
-no_rows : (ds : Docs) → form_below ds [] ≡ None
-no_rows no_docs = refl
-no_rows (doc d ds) = refl
-
--- no more fields to look into
-pub below_done : (rs : List Row) (ps : List Part) (i : ℕ) → min (length rs) (length ps) ≤ i → form_below (docs_in (drop i ps)) (map row_view (drop i rs)) ≡ None
-below_done rs [] zero le = refl
-below_done rs [] (suc i) le = refl
-below_done [] (p ∷ ps) zero le = refl
-below_done [] (p ∷ ps) (suc i) le = no_rows (docs_in (drop i ps))
-below_done (r ∷ rs) (p ∷ ps) zero le = absurd (omega arith)
-below_done (r ∷ rs) (p ∷ ps) (suc i) le = below_done rs ps i (omega arith)
+pub among_done : (ps : List Part) (i : ℕ) → length ps ≤ i → form_among (docs_in (drop i ps)) ≡ None
+among_done [] zero le = refl
+among_done [] (suc i) le = refl
+among_done (p ∷ ps) zero le = absurd (omega arith)
+among_done (p ∷ ps) (suc i) le = among_done ps i (omega arith)
 
 fields_next : (k : Kind) (rs : List Row) (ps : List Part) (i : ℕ) (r : Row) (p : Part) → i < length rs → i < length ps → p ≡ get_or ps i p → fields_form k (map row_view (drop i rs)) (docs_in (drop i ps)) ≡ option_or (field_form k (row_view (get_or rs i r)) (part_doc p)) (fields_form k (map row_view (drop (suc i) rs)) (docs_in (drop (suc i) ps)))
 fields_next k [] ps i r p lt lt' here = absurd (omega arith)

@@ -12,7 +12,7 @@ use oxt_tree::tree::{Node, Part};
 pub fn is_dropped(node: &Node) -> bool
     ensures { result ≡ is_dropped (node_doc node.now) }
 {
-    is_droppable(node.kind) && node.is_typescript_syntax()
+    is_droppable(node.kind) && node.is_erased()
 }
 
 /// Whether the part is such a node.

@@ -2,15 +2,14 @@
 ghost use Rattle.std.specs.Prelude.{◌≡◌, IfOk, map, option_map};
 ghost use Rattle.std.specs.List.{list_any};
 ghost use Rattle.std.specs.Str.{bytes_eq};
-ghost use Rattle.oxt_unbuilt.specs.Unbuilt.{field_form, fields_form, form_among, form_below, form_in, inside, is_misplaced, is_parameter_property, is_target, is_wrapped_target, node_form, property_marks, unbuilt};
+ghost use Rattle.oxt_unbuilt.specs.Unbuilt.{field_form, fields_form, form_among, is_parameter_property, node_form, property_marks, unbuilt};
 ghost use Rattle.oxt_table.specs.Field.{row_view};
 ghost use Rattle.oxt_table.specs.Kinds.{name_of};
 ghost use Rattle.oxt_tree.specs.Names.{name_bytes};
 ghost use Rattle.oxt_tree.specs.View.{docs_in, node_doc, part_doc};
 
 use crate::unbuilt_kinds::is_unbuilt;
-use oxt_table::category::Category;
-use oxt_table::holds::{Holds, Row};
+use oxt_table::holds::Row;
 use oxt_table::kind::Kind;
 use oxt_tree::ids::OutOfMemory;
 use oxt_tree::name::Name;
@@ -22,68 +21,54 @@ use std::alloc::Global;
 pub fn first_unbuilt(alloc: Global, program: &Node) -> Result<Option<Name>, OutOfMemory>
     ensures { IfOk result (λ form. option_map name_bytes form ≡ unbuilt (node_doc program.now)) }
 {
-    match form_in_node(program, Holds::Node(Category::Program)) {
+    match form_in_node(program) {
         Some(kind) => Ok(Some(Name::new(alloc, kind.name())?)),
         None => Ok(None),
     }
 }
 
-/// The first form in a part, where a field holds `holds`.
+/// The first form in a part.
 #[cycle(find)]
-fn form_in_part(part: &Part, holds: Holds) -> Option<Kind>
-    ensures { option_map name_of result ≡ form_in (part_doc part.now) holds }
+fn form_in_part(part: &Part) -> Option<Kind>
+    ensures { option_map name_of result ≡ unbuilt (part_doc part.now) }
 {
     match part {
-        Part::Node(node) => form_in_node(node, holds),
-        Part::List(parts) => form_among(parts.as_slice(), holds),
+        Part::Node(node) => form_in_node(node),
+        Part::List(parts) => form_among(parts.as_slice()),
         _ => None,
     }
 }
 
 /// The first form in a node: the node itself, or one in its fields.
 #[cycle(find)]
-fn form_in_node(node: &Node, holds: Holds) -> Option<Kind>
-    ensures { option_map name_of result ≡ form_in (node_doc node.now) holds }
+fn form_in_node(node: &Node) -> Option<Kind>
+    ensures { option_map name_of result ≡ unbuilt (node_doc node.now) }
 {
-    match form_at(node, holds) {
+    match form_at(node) {
         Some(form) => Some(form),
-        None => form_below(node.kind.rows(), node.parts.as_slice()),
+        None => form_among(node.parts.as_slice()),
     }
 }
 
-/// The first form in the elements of a list.
+/// The first form in the elements of a list, or in the fields of a node.
 #[tactic(auto, using(crate::proofs::Found::among_more, crate::proofs::Found::among_done))]
 #[cycle(find)]
-fn form_among(parts: &[Part], holds: Holds) -> Option<Kind>
-    ensures { option_map name_of result ≡ form_among (docs_in parts.now) holds }
+fn form_among(parts: &[Part]) -> Option<Kind>
+    ensures { option_map name_of result ≡ form_among (docs_in parts.now) }
 {
     for i in 0..parts.len() {
-        if let Some(form) = form_in_part(&parts[i], holds) {
+        if let Some(form) = form_in_part(&parts[i]) {
             return Some(form);
         }
     }
     None
 }
 
-/// The first form in what the fields of a node hold.
-#[tactic(auto, using(crate::proofs::Found::below_more, crate::proofs::Found::below_done))]
-#[cycle(find)]
-fn form_below(rows: &[Row], parts: &[Part]) -> Option<Kind>
-    ensures { option_map name_of result ≡ form_below (docs_in parts.now) (map row_view rows.now) }
+/// The form that the node itself is.
+fn form_at(node: &Node) -> Option<Kind>
+    ensures { option_map name_of result ≡ node_form node.now.kind (docs_in node.now.parts.items) }
 {
-    for i in 0..rows.len().min(parts.len()) {
-        if let Some(form) = form_in_part(&parts[i], rows[i].holds) {
-            return Some(form);
-        }
-    }
-    None
-}
-
-/// The form that the node is at its place.
-fn form_at(node: &Node, holds: Holds) -> Option<Kind>
-    ensures { option_map name_of result ≡ node_form holds (node_doc node.now) node.now.kind (docs_in node.now.parts.items) }
-{
-    if is_unbuilt(node.kind) || is_misplaced(holds, node) {
+    if is_unbuilt(node.kind) {
         Some(node.kind)
     } else {
         form_of_fields(node.kind, node.kind.rows(), node.parts.as_slice())
@@ -128,52 +113,5 @@ fn is_property_mark(name: &str) -> bool
     match name {
         "accessibility" | "readonly" | "override" => true,
         _ => false,
-    }
-}
-
-/// Whether the node is a wrapper as a target, by what the field holds in which it stands or in whose list.
-fn is_misplaced(holds: Holds, node: &Node) -> bool
-    ensures { result ≡ is_misplaced holds (node_doc node.now) }
-{
-    match holds {
-        Holds::Node(category) => is_wrapped_target(category, node),
-        Holds::NodeOrNull(category) => is_wrapped_target(category, node),
-        Holds::List(category) => is_wrapped_target(category, node),
-        Holds::ListOfNullable(category) => is_wrapped_target(category, node),
-        _ => false,
-    }
-}
-
-/// Whether the node is a wrapper where something is assigned, or as the element of a chain, around
-/// something that may not stand there.
-fn is_wrapped_target(category: Category, node: &Node) -> bool
-    ensures { result ≡ is_wrapped_target category (node_doc node.now) }
-{
-    is_target(category)
-        && (Category::Wrapper.contains(node.kind)
-            && !inside(category).contains(node.get_inner_expression().kind))
-}
-
-/// Whether something is assigned there, or it is the element of a chain.
-fn is_target(category: Category) -> bool
-    ensures { result ≡ is_target category }
-{
-    match category {
-        Category::SimpleAssignmentTarget => true,
-        Category::AssignmentTarget => true,
-        Category::AssignmentTargetMaybeDefault => true,
-        Category::ForStatementLeft => true,
-        Category::ChainElement => true,
-        _ => false,
-    }
-}
-
-/// What may stand there in the place of a wrapper.
-fn inside(category: Category) -> Category
-    ensures { result ≡ inside category }
-{
-    match category {
-        Category::ChainElement => Category::ChainElement,
-        _ => Category::SimpleAssignmentTarget,
     }
 }

@@ -2,8 +2,7 @@
 use Rattle.std.proofs.Common.{ℕ, ◌+◌, ◌^◌, ◌≡◌, refl, sym, ap, ◌∙◌, List, [], ◌∷◌, Bool, true, false, not, ◌&&◌, ◌||◌, nat_lt, cond, Option, None, Some, is_none, codes}
 use Rattle.std.specs.Fmt.{decimal}
 use Rattle.oxt_table.specs.Context.{setting_of}
-use Rattle.oxt_table.specs.Field.{Field, is_typescript_field}
-use Rattle.oxt_table.specs.Kinds.{is_typescript_kind}
+use Rattle.oxt_table.specs.Field.{Field}
 use Rattle.oxt_table.specs.Places.{narrow, category_of, element_of, kind_in, allows_null, allows_flag, allows_number}
 use Rattle.oxt_table.specs.Rows.{row_of}
 use Rattle.oxt_table.specs.declared.category.Category.{Category}
@@ -14,23 +13,21 @@ use Rattle.oxt_table.specs.declared.holds.Holds.{Holds}
 use Rattle.oxt_table.specs.declared.holds.Holds.TheVariants as holds
 use Rattle.oxt_table.specs.declared.kind.Kind.{Kind}
 use Rattle.oxt_tree.specs.Doc.{Doc, nil, flag, number, text, list, node, Docs, no_docs, doc}
-use Rattle.oxt_tree.specs.Fields.{is_default}
 use Rattle.oxt_valid.specs.Condition.{fault}
 use Rattle.oxt_valid.specs.Misfit.{below, condition_misfit, first_misfit, head_misfit, list_misfit, misfit, misfit_in_each, misfit_in_fields, or_else, unless}
-use Rattle.oxt_valid.specs.Plain.{all_plain, fields_plain, is_plain}
-use Rattle.oxt_valid.specs.Remains.{first_in_each, first_in_fields, first_typescript, in_field, in_row}
 use Rattle.oxt_valid.specs.Valid.{allows_text, all_fit, fields_fit, fits, for_elements, is_kind_of, is_tree}
 
 none_unless : (b : Bool) → is_none (unless b) ≡ b
 none_unless true = refl
 none_unless false = refl
 
-none_below : (name : List ℕ) (o : Option (List ℕ)) → is_none (below name o) ≡ is_none o
+-- a place seen from further out
+pub none_below : (name : List ℕ) (o : Option (List ℕ)) → is_none (below name o) ≡ is_none o
 none_below name None = refl
 none_below name (Some place) = refl
 
 -- neither place is there
-none_of_both : (o p : Option (List ℕ)) (a b : Bool) → is_none o ≡ a → is_none p ≡ b → is_none (or_else o p) ≡ (a && b)
+pub none_of_both : (o p : Option (List ℕ)) (a b : Bool) → is_none o ≡ a → is_none p ≡ b → is_none (or_else o p) ≡ (a && b)
 none_of_both None p a b e f = f ∙ ap (λ c. c && b) e
 none_of_both (Some place) p a b e f = ap (λ c. c && b) e
 
@@ -81,57 +78,6 @@ mutual
   each_decides (doc d ds) s i h =
       none_of_both (below (decimal i) (misfit d s h)) _ _ _ (none_below (decimal i) (misfit d s h) ∙ misfit_decides d s h) (each_decides ds s (i + 1) h)
 
-swap : (p q a : Bool) → (p && (q && a)) ≡ (q && (p && a))
-swap true q a = refl
-swap false true a = refl
-swap false false a = refl
-
--- A field holds nothing of TypeScript where it is not such a field itself, and nothing is inside.
-field_decides : (t f p q a : Bool) → ((not (t && not f) && p) && (q && a)) ≡ (((not t || f) && q) && (p && a))
-field_decides false f p q a = swap p q a
-field_decides true true p q a = swap p q a
-field_decides true false p q a = refl
-
-none_in_field : (r : Field) (d : Doc) (o : Option (List ℕ)) → is_none (in_field r d o) ≡ (not (is_typescript_field r.presence && not (is_default r.holds d)) && is_none o)
-none_in_field r d o = step (is_typescript_field r.presence && not (is_default r.holds d))
-  where
-    step : (b : Bool) → is_none (cond b (Some []) o) ≡ (not b && is_none o)
-    step true = refl
-    step false = refl
-
-none_in_row : (d : Doc) (o : Option (List ℕ)) → is_none (in_row None d o) ≡ is_none o
-none_in_row d None = refl
-none_in_row d (Some place) = refl
-
-none_in_node : (c : Bool) (o : Option (List ℕ)) (b : Bool) → is_none o ≡ b → is_none (cond c (Some []) o) ≡ (not c && b)
-none_in_node true o b e = refl
-none_in_node false o b e = e
-
-mutual
-  pub typescript_decides : (d : Doc) → is_none (first_typescript d) ≡ is_plain d
-  typescript_decides nil = refl
-  typescript_decides (flag b) = refl
-  typescript_decides (number n) = refl
-  typescript_decides (text t) = refl
-  typescript_decides (list ds) = plain_each ds 0
-  typescript_decides (node k i b e ds) = none_in_node (is_typescript_kind k) (first_in_fields ds (row_of k)) _ (plain_fields ds (row_of k))
-
-  plain_fields : (ds : Docs) (rs : List Field) → is_none (first_in_fields ds rs) ≡ (fields_plain rs ds && all_plain ds)
-  plain_fields no_docs [] = refl
-  plain_fields no_docs (r ∷ rs) = refl
-  plain_fields (doc d ds) [] =
-      none_of_both (in_row None d (first_typescript d)) _ _ _ (none_in_row d (first_typescript d) ∙ typescript_decides d) (plain_fields ds [])
-  plain_fields (doc d ds) (r ∷ rs) =
-      none_of_both (below r.name (in_field r d (first_typescript d))) _ _ _
-      (none_below r.name (in_field r d (first_typescript d)) ∙ none_in_field r d (first_typescript d) ∙ ap (λ b. not (is_typescript_field r.presence && not (is_default r.holds d)) && b) (typescript_decides d))
-      (plain_fields ds rs)
-      ∙ field_decides (is_typescript_field r.presence) (is_default r.holds d) (is_plain d) (fields_plain rs ds) (all_plain ds)
-
-  plain_each : (ds : Docs) (i : ℕ) → is_none (first_in_each ds i) ≡ all_plain ds
-  plain_each no_docs i = refl
-  plain_each (doc d ds) i =
-      none_of_both (below (decimal i) (first_typescript d)) _ _ _ (none_below (decimal i) (first_typescript d) ∙ typescript_decides d) (plain_each ds (i + 1))
-
 -- a place was found, or none
 pub some_misfit : (d : Doc) (s : Setting) (h : Holds) (place : List ℕ) → Some place ≡ misfit d s h → false ≡ fits d s h
 some_misfit d s h place e = ap is_none e ∙ misfit_decides d s h
@@ -139,15 +85,6 @@ some_misfit d s h place e = ap is_none e ∙ misfit_decides d s h
 pub no_misfit : (d : Doc) (s : Setting) (h : Holds) → None ≡ misfit d s h → true ≡ fits d s h
 no_misfit d s h e = ap is_none e ∙ misfit_decides d s h
 
-pub some_typescript : (d : Doc) (place : List ℕ) → Some place ≡ first_typescript d → false ≡ is_plain d
-some_typescript d place e = ap is_none e ∙ typescript_decides d
-
-pub no_typescript : (d : Doc) → None ≡ first_typescript d → true ≡ is_plain d
-no_typescript d e = ap is_none e ∙ typescript_decides d
-
 -- the same of whole trees
 pub no_tree : (d : Doc) (place : List ℕ) → first_misfit d ≡ Some place → is_tree d ≡ false
 no_tree d place e = sym (some_misfit d Elsewhere (holds.Node category.Program) place (sym e))
-
-pub not_plain : (d : Doc) (place : List ℕ) → first_typescript d ≡ Some place → is_plain d ≡ false
-not_plain d place e = sym (some_typescript d place (sym e))

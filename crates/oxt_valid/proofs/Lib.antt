@@ -2,4 +2,3 @@ pub mod Decisions
 pub mod FitLoops
 pub mod Misfits
 pub mod PlainLoops
-pub mod Remainders

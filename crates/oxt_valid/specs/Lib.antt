@@ -1,5 +1,4 @@
 pub mod Condition
 pub mod Misfit
 pub mod Plain
-pub mod Remains
 pub mod Valid

@@ -4,8 +4,7 @@
 pub mod condition;
 pub mod fits;
 pub mod misfit;
-mod place;
+pub mod place;
 pub mod plain;
-pub mod remains;
 #[cfg(test)]
 mod tests;

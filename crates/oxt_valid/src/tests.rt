@@ -1,7 +1,6 @@
 use crate::fits::is_tree;
 use crate::misfit::first_misfit;
 use crate::plain::is_plain;
-use crate::remains::first_typescript;
 use oxt_table::kind::Kind;
 use oxt_table::word::Word;
 use oxt_tree::ids::{NodeId, OutOfMemory, Span};
@@ -48,7 +47,6 @@ fn trees_fit_the_grammar(rt: HostRuntime) -> Result<(), Fail> {
     let good = program(alloc, statement(alloc, Part::Node(name))?)?;
     assert!(rt; is_tree(&good) && is_plain(&good));
     assert!(rt; first_misfit(alloc, &good)?.is_none());
-    assert!(rt; first_typescript(alloc, &good)?.is_none());
     Ok(())
 }
 
@@ -66,19 +64,5 @@ fn a_misfit_has_a_place(rt: HostRuntime) -> Result<(), Fail> {
     let bare = node(Kind::Program, 1, Vec::new(alloc));
     let place = first_misfit(alloc, &bare)?.ok_or("no place")?;
     assert_eq!(rt; place.as_str(), "/sourceType");
-    Ok(())
-}
-
-#[test]
-fn what_remains_of_typescript_has_a_place(rt: HostRuntime) -> Result<(), Fail> {
-    let alloc = rt.alloc();
-    let name = named(alloc, Kind::IdentifierReference, 4, "a")?;
-    let operand = vec![in alloc; Part::Node(name)]?;
-    let wrapper = node(Kind::TSNonNullExpression, 3, operand);
-    let wrapped = program(alloc, statement(alloc, Part::Node(wrapper))?)?;
-    assert!(rt; is_tree(&wrapped) && !is_plain(&wrapped));
-    assert!(rt; first_misfit(alloc, &wrapped)?.is_none());
-    let place = first_typescript(alloc, &wrapped)?.ok_or("no place")?;
-    assert_eq!(rt; place.as_str(), "/body/0/expression");
     Ok(())
 }

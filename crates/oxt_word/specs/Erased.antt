@@ -4,7 +4,7 @@ use Rattle.oxt_table.specs.declared.kind.Kind.{Kind}
 use Rattle.oxt_table.specs.declared.kind.Kind.TheVariants as kind
 use Rattle.oxt_tree.specs.Doc.{Doc, Docs}
 use Rattle.oxt_tree.specs.Fields.{named, field_of, is_set, is_text, is_kind}
-use Rattle.oxt_tree.specs.Syntax.{lacks_body}
+use Rattle.oxt_tree.specs.Syntax.{is_mere_declaration, lacks_body}
 use Rattle.oxt_item.specs.Entry.{Entry, lone}
 use Rattle.oxt_item.specs.declared.item.Binding.TheVariants as binding
 use Rattle.oxt_item.specs.declared.item.ItemKind.TheVariants as item
@@ -13,12 +13,6 @@ use Rattle.oxt_word.specs.declared.rule.Rule.{Rule}
 use Rattle.oxt_word.specs.declared.rule.Rule.TheVariants as rule
 use Rattle.oxt_word.specs.declared.way.Way.{Way}
 use Rattle.oxt_word.specs.declared.way.Way.TheVariants as way
-
--- an interface, a function without body, or a declaration with `declare`, as a default
-abbrev pub is_erased_default : Doc → Bool
-is_erased_default d =
-    is_kind kind.TSInterfaceDeclaration d
-    || (is_kind kind.TSDeclareFunction d || is_set (field_of (codes "declare") d))
 
 -- erased by its kind, by `declare` or `type`, or for want of a body
 abbrev pub is_gone : Rule → Kind → Docs → Bool
@@ -32,7 +26,7 @@ is_gone rule.Import k ds = is_text (codes "type") (named (codes "importKind") k 
 is_gone (rule.Binds binding.Import) k ds = is_text (codes "type") (named (codes "importKind") k ds)
 is_gone rule.ExportList k ds = is_text (codes "type") (named (codes "exportKind") k ds)
 is_gone rule.ExportPart k ds = is_text (codes "type") (named (codes "exportKind") k ds)
-is_gone rule.ExportDefault k ds = is_erased_default (named (codes "declaration") k ds)
+is_gone rule.ExportDefault k ds = is_mere_declaration (named (codes "declaration") k ds)
 is_gone r k ds = false
 
 -- An erased statement is an empty block where it is the body of a loop or of an `if`, an absent part as its

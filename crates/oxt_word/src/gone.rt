@@ -2,8 +2,9 @@
 ghost use Rattle.std.specs.Prelude.{◌≡◌, ◌++◌, [], OnOk, codes};
 ghost use Rattle.oxt_item.specs.Entry.{entries, lone};
 ghost use Rattle.oxt_tree.specs.Fields.{named};
+ghost use Rattle.oxt_tree.specs.Syntax.{is_mere_declaration};
 ghost use Rattle.oxt_tree.specs.View.{docs_in};
-ghost use Rattle.oxt_word.specs.Erased.{gone_word, is_erased_default, is_gone};
+ghost use Rattle.oxt_word.specs.Erased.{gone_word, is_gone};
 ghost use Rattle.oxt_word.specs.Node.{start};
 
 use crate::put::{put_lone, put_start};
@@ -12,7 +13,7 @@ use crate::way::Way;
 use oxt_item::item::{Binding, Item, ItemKind};
 use oxt_table::kind::Kind;
 use oxt_tree::ids::OutOfMemory;
-use oxt_tree::tree::{Node, Part};
+use oxt_tree::tree::Node;
 use std::alloc::Global;
 
 /// Whether the node is erased by its kind, by `declare` or `type`, or for want of a body.
@@ -35,17 +36,14 @@ pub fn is_gone(rule: Rule, node: &Node) -> bool
     }
 }
 
-/// Whether the default is an interface, a function without body, or a declaration with `declare`.
+/// Whether the default is a declaration that stands for nothing at run time.
 fn has_erased_default(node: &Node) -> bool
-    ensures { result ≡ is_erased_default
+    ensures { result ≡ is_mere_declaration
         (named (codes "declaration") node.now.kind (docs_in node.now.parts.items)) }
 {
     match node.field("declaration") {
-        Some(Part::Node(declaration)) => {
-            declaration.kind.is(Kind::TSInterfaceDeclaration)
-                || (declaration.kind.is(Kind::TSDeclareFunction) || declaration.flag("declare"))
-        }
-        _ => false,
+        Some(declaration) => declaration.is_mere_declaration(),
+        None => false,
     }
 }
 

@@ -7,4 +7,4 @@ abbrev pub decreases-loop-found : goal.decreases-loop-found
 decreases-loop-found l = length l.scoping.symbols - length l.found.items
 
 abbrev pub invariant-loop-found : goal.invariant-loop-found
-invariant-loop-found l = IsFound l.scoping.symbols l.found.items
+invariant-loop-found l = IsFound l.all l.scoping.symbols l.found.items

@@ -4,4 +4,4 @@ use Rattle.oxt_scope.specs.Owners.{owners_of}
 use Rattle.oxt_hygiene.proofs.laws.first_moved_is_first.Goals as goal
 
 pub returns : goal.returns
-returns c es s source output i = some_moved es (left_owners s (owners_of source)) (owners_of output) i
+returns c es all s source output i = some_moved es (left_owners all s (owners_of source)) (owners_of output) i

@@ -4,4 +4,4 @@ use Rattle.oxt_scope.specs.Owners.{owners_of}
 use Rattle.oxt_hygiene.proofs.laws.none_moved_keeps_owners.Goals as goal
 
 pub returns : goal.returns
-returns c es s source output = none_moved es (left_owners s (owners_of source)) (owners_of output)
+returns c es all s source output = none_moved es (left_owners all s (owners_of source)) (owners_of output)

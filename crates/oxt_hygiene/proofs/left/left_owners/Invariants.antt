@@ -9,5 +9,5 @@ decreases-loop-i l = l.i
 abbrev pub invariant-loop-i : goal.invariant-loop-i
 invariant-loop-i l = record {
   within : l.i ≤ length l.names;
-  so_far : HasLeft l.scoping l.i l.names l.left.entries;
+  so_far : HasLeft l.emitting l.scoping.references l.i l.names l.left.entries;
 }

@@ -1,0 +1,5 @@
+pub mod Collected
+pub mod Decisions
+pub mod Kept
+pub mod Plainly
+pub mod Remainders

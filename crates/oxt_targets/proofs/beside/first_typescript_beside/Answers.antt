@@ -1,0 +1,15 @@
+-- No place is found exactly where the tree is plain beside the wrappers.
+use Rattle.std.proofs.Common.{string_bytes}
+use Rattle.oxt_targets.specs.Targets.{is_listed}
+use Rattle.oxt_tree.specs.View.{node_doc}
+use Rattle.oxt_targets.proofs.Decisions.{some_typescript, no_typescript}
+use Rattle.oxt_targets.proofs.beside.first_typescript_beside.Goals as goal
+
+pub returns-in_ok-from_string-in-Some-clause-plain :
+    goal.returns-in_ok-from_string-in-Some-clause-plain
+returns-in_ok-from_string-in-Some-clause-plain c =
+    some_typescript (node_doc c.args.node.now) (is_listed c.args.targets.now) (string_bytes c.in-Some.place) (rw c.in-Some.is at c.in_ok-place.ensures)
+
+pub returns-in-None-clause-plain : goal.returns-in-None-clause-plain
+returns-in-None-clause-plain c =
+    no_typescript (node_doc c.args.node.now) (is_listed c.args.targets.now) (rw c.in-None.is at c.in_ok-place.ensures)

@@ -1,0 +1,3 @@
+pub mod Beside
+pub mod Laws
+pub mod Targets

@@ -1,0 +1,4 @@
+//! Plain JavaScript comes back as it is.
+#![tactic(auto)]
+
+pub mod laws;
