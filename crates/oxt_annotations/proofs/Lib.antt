@@ -1,5 +1,6 @@
 pub mod Defaults
 pub mod Dropped
+pub mod Elements
 pub mod Housed
 pub mod Insides
 pub mod Plain

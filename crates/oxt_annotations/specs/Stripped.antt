@@ -12,7 +12,7 @@ use Rattle.oxt_table.specs.declared.holds.Holds.TheVariants as holds
 use Rattle.oxt_table.specs.declared.kind.Kind.{Kind}
 use Rattle.oxt_table.specs.declared.kind.Kind.TheVariants as kind
 use Rattle.oxt_tree.specs.Doc.{Doc, nil, flag, number, text, list, node, Docs, no_docs, doc}
-use Rattle.oxt_tree.specs.Fields.{default_of, is_in}
+use Rattle.oxt_tree.specs.Fields.{default_of, is_in, is_kind}
 use Rattle.oxt_tree.specs.Inner.{inner_expression}
 use Rattle.oxt_unbuilt.specs.Dropped.{is_droppable, is_dropped}
 
@@ -79,6 +79,33 @@ untyped k ds = if kind_in category.Transparent k then ds else at_defaults (is_dr
 abbrev pub undeclared : Docs → Docs
 undeclared no_docs = no_docs
 undeclared (doc d ds) = if is_dropped d then undeclared ds else doc d (undeclared ds)
+
+-- each document changed so
+abbrev pub each_changed : (Doc → Doc) → Docs → Docs
+each_changed f no_docs = no_docs
+each_changed f (doc d ds) = doc (f d) (each_changed f ds)
+
+-- a node with its fields changed so
+abbrev pub with_fields : (Doc → Doc) → Doc → Doc
+with_fields f nil = nil
+with_fields f (flag b) = flag b
+with_fields f (number n) = number n
+with_fields f (text t) = text t
+with_fields f (list ds) = list ds
+with_fields f (node k i b e ds) = node k i b e (each_changed f ds)
+
+-- a list without the elements that stand for nothing at run time
+abbrev pub list_left : Doc → Doc
+list_left (list ds) = list (undeclared ds)
+list_left d = d
+
+-- the body of a class without them
+abbrev pub body_left : Doc → Doc
+body_left d = if is_kind kind.ClassBody d then with_fields list_left d else d
+
+-- a class without the elements that stand for nothing at run time; its other fields are as they were
+abbrev pub class_left : Doc → Doc
+class_left d = with_fields body_left d
 
 -- The document without its types: what is in it without types, then its fields at their defaults, its
 -- elements without what stands for nothing, and the wrapper that it is opened.

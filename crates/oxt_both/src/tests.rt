@@ -1,4 +1,9 @@
 //! Two passes at one node.
+//!
+//! What needs memory is made by `expect`, which ends the run where there is none: so nothing is dropped there,
+//! which is what costs in a proof. A function that borrows what was made says what holds.
+ghost use Rattle.std.specs.Prelude.{◌≡◌, ◌<◌, length};
+ghost use Rattle.oxt_stores.specs.Frame.{frames};
 
 use crate::both::Both;
 use oxt_ctx::context::TraverseCtx;
@@ -13,7 +18,8 @@ use oxt_traverse::traverse::Traverse;
 use oxt_tree::ids::{NodeId, NodeIds, OutOfMemory, Span};
 use oxt_tree::tree::{Node, Part};
 use oxt_uid::uid::UidNames;
-use std::test::Fail;
+use std::alloc::Global;
+use std::process::Abort;
 
 /// Adds a digit to the number of each expression.
 #[derive(Clone, Copy)]
@@ -64,10 +70,12 @@ impl Traverse for Adds {
     ghost watching = { watches_nothing };
 }
 
-#[test]
-fn the_first_comes_before_the_second(rt: HostRuntime) -> Result<(), Fail> {
-    let alloc = rt.alloc();
-    let scoping = Scoping::new(alloc, ScopeFlags::Top, UidNames::new(alloc))?;
+/// A context in which nothing is known, in one list of statements.
+fn context(rt: &impl Abort, alloc: Global) -> TraverseCtx
+    ensures { length (frames result.declarations) ≡ 1 }
+{
+    let made = Scoping::new(alloc, ScopeFlags::Top, UidNames::new(alloc));
+    let scoping = made.expect(rt, "memory");
     let state = TransformState {
         module: Module::Preserve,
         set_public_class_fields: false,
@@ -76,18 +84,39 @@ fn the_first_comes_before_the_second(rt: HostRuntime) -> Result<(), Fail> {
     };
     let ids = NodeIds { next: 100 };
     let mut ctx = TraverseCtx::new(alloc, scoping, Plan::empty(alloc), state, ids);
-    ctx.var_declarations.record_entering_statements()?;
-    let mut node = Node {
+    let entered = ctx.var_declarations.record_entering_statements();
+    entered.expect(rt, "memory");
+    ctx
+}
+
+/// `this`.
+fn this(alloc: Global) -> Node {
+    Node {
         kind: Kind::ThisExpression,
         id: NodeId(1),
         span: Span::NONE,
         parts: Vec::new(alloc),
-    };
+    }
+}
+
+/// Whether the number of the expression becomes that one.
+fn becomes(ctx: &mut TraverseCtx, node: &mut Node, number: u64) -> Result<bool, OutOfMemory>
+    requires { 0 < length (frames ctx.old.declarations) }
+{
     let mut both = Both {
         first: Adds { digit: 2 },
         second: Adds { digit: 3 },
     };
-    both.enter_expression(&mut node, &mut ctx)?;
-    assert_eq!(rt; node.id.0, 123);
-    Ok(())
+    both.enter_expression(node, ctx)?;
+    Ok(node.id.0 == number)
+}
+
+#[test]
+fn the_first_comes_before_the_second(rt: HostRuntime) {
+    let mut ctx = context(&rt, rt.alloc());
+    let mut node = this(rt.alloc());
+    let holds = becomes(&mut ctx, &mut node, 123).expect(&rt, "memory");
+    assert!(rt; holds);
+    drop(node);
+    drop(ctx);
 }

@@ -1,16 +1,18 @@
 //! One small tree, written by hand.
+//!
+//! What needs memory is made by `expect`, which ends the run where there is none: so nothing is dropped there,
+//! which is what costs in a proof.
 
+use crate::declaration::Declaration;
 use crate::declares::declarations_of;
 use oxt_table::kind::Kind;
 use oxt_table::word::Word;
-use oxt_tree::ids::{NodeId, OutOfMemory, Span};
+use oxt_tree::ids::{NodeId, Span};
 use oxt_tree::name::Name;
 use oxt_tree::tree::{Node, Part};
 use std::alloc::Global;
-use std::test::Fail;
+use std::process::Abort;
 use std::vec;
-
-type Made = Result<Part, OutOfMemory>;
 
 fn node(kind: Kind, number: u64, parts: Vec<Part>) -> Part {
     Part::Node(Node {
@@ -21,69 +23,84 @@ fn node(kind: Kind, number: u64, parts: Vec<Part>) -> Part {
     })
 }
 
-/// A node that is a name.
-fn named(alloc: Global, kind: Kind, number: u64, name: &str) -> Made {
-    let parts = vec![in alloc; Part::Text(Name::new(alloc, name)?)]?;
-    Ok(node(kind, number, parts))
+/// A node around one part.
+fn around(rt: &impl Abort, alloc: Global, kind: Kind, number: u64, part: Part) -> Part {
+    let parts = vec![in alloc; part].expect(rt, "memory");
+    node(kind, number, parts)
 }
 
-/// A node whose only field is a list of one.
-fn list(alloc: Global, kind: Kind, number: u64, part: Part) -> Made {
-    let parts = vec![in alloc; Part::List(vec![in alloc; part]?)]?;
-    Ok(node(kind, number, parts))
+/// A node that is a name.
+fn named(rt: &impl Abort, alloc: Global, kind: Kind, number: u64, name: &str) -> Part {
+    let name = Name::new(alloc, name).expect(rt, "memory");
+    around(rt, alloc, kind, number, Part::Text(name))
+}
+
+/// A list of one.
+fn list(rt: &impl Abort, alloc: Global, part: Part) -> Part {
+    Part::List(vec![in alloc; part].expect(rt, "memory"))
 }
 
 /// `let NAME`, of three nodes from that number on.
-fn variable(alloc: Global, number: u32, name: &str) -> Made {
-    let id = named(alloc, Kind::BindingIdentifier, u64::from(number) + 2, name)?;
-    let parts = vec![in alloc; id, Part::Nothing, Part::Flag(false), Part::Nothing]?;
-    let declarator = node(Kind::VariableDeclarator, u64::from(number) + 1, parts);
-    let declarators = Part::List(vec![in alloc; declarator]?);
-    let parts = vec![in alloc; Part::Word(Word::Let), declarators, Part::Flag(false)]?;
-    Ok(node(Kind::VariableDeclaration, u64::from(number), parts))
+fn variable(rt: &impl Abort, alloc: Global, number: u32, name: &str) -> Part {
+    let number = u64::from(number);
+    let id = named(rt, alloc, Kind::BindingIdentifier, number + 2, name);
+    let fields = vec![in alloc; id, Part::Nothing, Part::Flag(false), Part::Nothing];
+    let parts = fields.expect(rt, "memory");
+    let declarator = node(Kind::VariableDeclarator, number + 1, parts);
+    let declarators = list(rt, alloc, declarator);
+    let fields = vec![in alloc; Part::Word(Word::Let), declarators, Part::Flag(false)];
+    let parts = fields.expect(rt, "memory");
+    node(Kind::VariableDeclaration, number, parts)
 }
 
 /// `{ NAME; }`, of three nodes from that number on.
-fn block(alloc: Global, number: u32, name: &str) -> Made {
-    let name = named(
-        alloc,
-        Kind::IdentifierReference,
-        u64::from(number) + 2,
-        name,
-    )?;
-    let parts = vec![in alloc; name]?;
-    let statement = node(Kind::ExpressionStatement, u64::from(number) + 1, parts);
-    list(alloc, Kind::BlockStatement, u64::from(number), statement)
+fn block(rt: &impl Abort, alloc: Global, number: u32, name: &str) -> Part {
+    let number = u64::from(number);
+    let name = named(rt, alloc, Kind::IdentifierReference, number + 2, name);
+    let statement = around(rt, alloc, Kind::ExpressionStatement, number + 1, name);
+    let statements = list(rt, alloc, statement);
+    around(rt, alloc, Kind::BlockStatement, number, statements)
 }
 
-/// `let x; { x; } { y; }`.
-fn program(alloc: Global) -> Result<Node, OutOfMemory> {
-    let body = vec![in alloc;
-        variable(alloc, 2, "x")?,
-        block(alloc, 5, "x")?,
-        block(alloc, 8, "y")?,
-    ]?;
-    let parts = vec![in alloc;
+/// A program of these statements.
+fn program_of(rt: &impl Abort, alloc: Global, body: Vec<Part>) -> Node {
+    let fields = vec![in alloc;
         Part::Word(Word::Script),
         Part::Word(Word::Js),
         Part::Nothing,
         Part::List(Vec::new(alloc)),
         Part::List(body),
-    ]?;
-    Ok(Node {
+    ];
+    Node {
         kind: Kind::Program,
         id: NodeId(1),
         span: Span::NONE,
-        parts,
-    })
+        parts: fields.expect(rt, "memory"),
+    }
+}
+
+/// `let x; { x; } { y; }`.
+fn program(rt: &impl Abort, alloc: Global) -> Node {
+    let declared = variable(rt, alloc, 2, "x");
+    let first = block(rt, alloc, 5, "x");
+    let second = block(rt, alloc, 8, "y");
+    let body = vec![in alloc; declared, first, second].expect(rt, "memory");
+    program_of(rt, alloc, body)
+}
+
+/// Whether the node of that number declares that name, and nothing else is declared.
+fn is_only(declarations: &[Declaration<'_>], name: &str, number: u64) -> bool {
+    declarations.len() == 1
+        && declarations[0].name == name
+        && declarations[0].node == NodeId(number)
 }
 
 #[test]
-fn declarations_of_a_program(rt: HostRuntime) -> Result<(), Fail> {
-    let program = program(rt.alloc())?;
-    let declarations = declarations_of(rt.alloc(), &program)?;
-    assert_eq!(rt; declarations.len(), 1);
-    assert_eq!(rt; declarations[0].name, "x");
-    assert_eq!(rt; declarations[0].node, NodeId(4));
-    Ok(())
+fn declarations_of_a_program(rt: HostRuntime) {
+    let program = program(&rt, rt.alloc());
+    let declarations = declarations_of(rt.alloc(), &program).expect(&rt, "memory");
+    let holds = is_only(declarations.as_slice(), "x", 4);
+    assert!(rt; holds);
+    drop(declarations);
+    drop(program);
 }

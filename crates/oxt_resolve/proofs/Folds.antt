@@ -1,5 +1,5 @@
 -- Loops that do one thing after the other.
-use Rattle.std.proofs.Common.{◌≡◌, ◌∙◌, refl, sym, ap, ℕ, ◌+◌, ◌<◌, ◌≤◌, List, [], ◌∷◌, length, drop, get_or, map, fold, Option}
+use Rattle.std.proofs.Common.{◌≡◌, ◌∙◌, sym, ap, ℕ, ◌+◌, ◌<◌, ◌≤◌, List, length, drop, get_or, map, fold, Option}
 use Rattle.oxt_resolve.specs.Resolved.{all_used, with_used}
 use Rattle.oxt_scope.specs.OwnedViews.{owned_view, owned_views}
 use Rattle.oxt_scope.specs.declared.owners.OwnedName.{OwnedName}

@@ -1,7 +1,7 @@
 -- Tables of what a list says of numbers.
 use denote.Ref.{Bor}
-use Rattle.std.proofs.Common.{◌≡◌, ◌∙◌, refl, sym, ap, ℕ, ◌+◌, ◌<◌, ◌≤◌, List, [], ◌∷◌, length, drop, get_or, map, fold, Bool, true, false, cond, Option, Some, None}
-use Rattle.std.specs.Prelude.{◌==◌, option_map, if◌then◌else◌}
+use Rattle.std.proofs.Common.{◌≡◌, ◌∙◌, refl, sym, ap, ℕ, ◌+◌, ◌<◌, ◌≤◌, List, [], length, drop, get_or, map, Bool, true, false, cond, Option, Some}
+use Rattle.std.specs.Prelude.{◌==◌, option_map}
 use Rattle.indexmap.specs.IndexMap.{insert_entry}
 use Rattle.oxt_resolve.specs.Flags.{both, scope_flag}
 use Rattle.oxt_resolve.specs.Gathered.{at_number, gathered, or_this}

@@ -1,5 +1,5 @@
 -- What holds of each symbol of a table, whatever is done to it.
-use Rattle.std.proofs.Common.{◌≡◌, ◌∙◌, refl, sym, ap, subst, ℕ, List, [], ◌∷◌, ◌++◌, fold, length, Option, Some, None, arith}
+use Rattle.std.proofs.Common.{◌≡◌, ◌∙◌, sym, ap, ℕ, List, [], ◌∷◌, ◌++◌, fold, length, Option, Some, None, arith}
 use Rattle.std.proofs.lemmas.List.Sums.{fold-append}
 use Rattle.std.proofs.lemmas.Nat.{and_le_l, or_disjoint}
 use Rattle.std.specs.Int.RustNames.{bit_and, bit_or}
@@ -8,7 +8,7 @@ use Rattle.oxt_resolve.specs.declared.enums.EnumPart.{EnumPart}
 use Rattle.oxt_resolve.specs.declared.enums.EnumPart.TheVariants as part
 use Rattle.oxt_symbol.specs.Constant.{Constant}
 use Rattle.oxt_resolve.specs.Flags.{joined, redeclared, symbol_flag}
-use Rattle.oxt_resolve.specs.Laws.{HasAllFlags, JoinsFlags, all_flags}
+use Rattle.oxt_resolve.specs.Laws.{HasAllFlags, JoinsFlags}
 use Rattle.oxt_resolve.specs.Marks.{marks_of}
 use Rattle.oxt_resolve.specs.Resolved.{Values, again, all_declared, all_enums, all_opened, all_used, declared_as, declared_table, enum_as, opened_in, part_of, reference_of, root_of, scope_of_number, symbol_of, values_of, with_body, with_declarations, with_declared, with_enum, with_enums, with_opened, with_used, with_value}
 use Rattle.oxt_resolve.specs.Spellings.{spellings_of}

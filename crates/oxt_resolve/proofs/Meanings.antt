@@ -4,7 +4,7 @@ use Rattle.std.proofs.lemmas.Bool.{eqb-true, eq-eqb}
 use Rattle.std.specs.Prelude.{◌==◌, option_map, slice_get}
 use Rattle.oxt_resolve.specs.Laws.{KnowsUses, MeansOwners, is_symbol, live_slot, uses_from, uses_of}
 use Rattle.oxt_resolve.specs.Marks.{marks_of}
-use Rattle.oxt_resolve.specs.Resolved.{Values, all_declared, all_enums, all_opened, all_used, declared_as, declared_table, enum_as, group_of, opened_in, part_of, reference_of, resolved, root_of, scope_of_number, symbol_of, values_of, with_body, with_declarations, with_declared, with_enum, with_enums, with_opened, with_used, with_value}
+use Rattle.oxt_resolve.specs.Resolved.{Values, all_declared, all_enums, all_opened, all_used, declared_as, declared_table, enum_as, group_of, opened_in, part_of, reference_of, root_of, scope_of_number, symbol_of, values_of, with_body, with_declarations, with_declared, with_enum, with_enums, with_opened, with_used, with_value}
 use Rattle.oxt_resolve.specs.Spellings.{spellings_of}
 use Rattle.oxt_resolve.proofs.Holding.{before_uses}
 use Rattle.oxt_declares.specs.Declarations.{Declared}

@@ -1,5 +1,5 @@
 -- What one call makes of the table.
-use Rattle.std.proofs.Common.{◌≡◌, ◌∙◌, refl, sym, ap, ℕ, zero, suc, List, [], ◌∷◌, ◌++◌, length, Option, Some, None}
+use Rattle.std.proofs.Common.{◌≡◌, ◌∙◌, refl, ap, ℕ, zero, suc, List, [], ◌∷◌, ◌++◌, length, Option, Some, None}
 use Rattle.std.specs.Prelude.{option_map, slice_get}
 use Rattle.oxt_resolve.specs.Flags.{joined, usage_flags}
 use Rattle.oxt_resolve.specs.Resolved.{again, again_in, declared_as, flags_of_scope, flags_within, group_of, opened_within, with_used}

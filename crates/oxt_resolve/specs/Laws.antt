@@ -1,5 +1,5 @@
 -- What holds of the table of every document.
-use Rattle.std.specs.Prelude.{ℕ, zero, suc, ◌≡◌, List, [], ◌∷◌, map, fold, Bool, true, false, ◌==◌, if◌then◌else◌, Option, None, Some, IfSome, slice_get}
+use Rattle.std.specs.Prelude.{ℕ, suc, ◌≡◌, List, [], ◌∷◌, map, fold, Bool, true, false, ◌==◌, if◌then◌else◌, Option, None, Some, IfSome, slice_get}
 use Rattle.oxt_tree.specs.Doc.{Doc}
 use Rattle.oxt_scope.specs.Owners.{owners_of}
 use Rattle.oxt_scoping.specs.Entries.{SymbolData}

@@ -1,7 +1,6 @@
 -- What nodes say of the scopes of functions, namespaces and the program besides their kinds.
 use Rattle.std.specs.Prelude.{ℕ, List, [], ◌∷◌, ◌++◌, map, Bool, true, false, ◌||◌, if◌then◌else◌, Option, None, Some, codes}
 use Rattle.std.specs.List.{list_any}
-use Rattle.std.specs.Map.{lookup}
 use Rattle.oxt_table.specs.Places.{same_kind}
 use Rattle.oxt_table.specs.declared.kind.Kind.{Kind}
 use Rattle.oxt_table.specs.declared.kind.Kind.TheVariants as kind

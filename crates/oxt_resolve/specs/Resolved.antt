@@ -3,7 +3,6 @@ use Rattle.std.specs.Prelude.{ℕ, List, [], ◌∷◌, ◌++◌, length, fold, 
 use Rattle.std.specs.Map.{lookup}
 use Rattle.indexmap.specs.IndexMap.{insert_entry}
 use Rattle.oxt_tree.specs.Doc.{Doc}
-use Rattle.oxt_tree.specs.declared.ids.NodeId.{NodeId}
 use Rattle.oxt_uid.specs.Made.{all_added}
 use Rattle.oxt_uid.specs.Names.{names}
 use Rattle.oxt_declares.specs.Declarations.{Declared}
@@ -173,11 +172,22 @@ all_enums values xs s = fold (with_enums values) s xs
 abbrev pub all_used : (ℕ → Option (List ℕ)) → List Owned → Scoped → Scoped
 all_used names os s = fold (with_used names) s os
 
+-- the table of a tree with these marks and scopes, and what these declare
+abbrev pub declared_by : (ℕ → ScopeFlags) → List Opened → Doc → Scoped
+declared_by marks xs d = all_declared xs (all_opened marks xs (root_of marks d))
+
+-- the table with the enums of a tree that has these scopes, and these names that it uses
+abbrev pub used_by : List Owned → List Opened → Doc → Scoped → Scoped
+used_by os xs d s = all_used (spellings_of d) os (all_enums (values_by os xs d) xs s)
+
 -- the table without references
 abbrev pub declared_table : Doc → Scoped
-declared_table d = all_enums (values_of d) (scopes_of d) (all_declared (scopes_of d) (all_opened (marks_of d) (scopes_of d) (root_of (marks_of d) d)))
+declared_table d = all_enums (values_of d) (scopes_of d) (declared_by (marks_of d) (scopes_of d) d)
 
 -- The scopes come first, in the order of the text, then what they declare, then the bodies and constants
 -- of enums, then the names that are used.
+abbrev pub table_by : List Owned → List Opened → Doc → Scoped
+table_by os xs d = used_by os xs d (declared_by (marks_of d) xs d)
+
 abbrev pub resolved : Doc → Scoped
-resolved d = all_used (spellings_of d) (owners_of d) (declared_table d)
+resolved d = table_by (owners_of d) (scopes_of d) d

@@ -1,7 +1,5 @@
 -- The spellings of the names that a tree uses, by the numbers of their nodes.
-use denote.Ref.{Bor}
 use Rattle.std.specs.Prelude.{ℕ, List, [], ◌∷◌, ◌++◌, map, Option, None, Some, option_map}
-use Rattle.oxt_table.specs.declared.kind.Kind.{Kind}
 use Rattle.oxt_tree.specs.Doc.{Doc, nil, flag, number, text, list, node, Docs, no_docs, doc}
 use Rattle.oxt_tree.specs.Fields.{first, text_in}
 use Rattle.oxt_declares.specs.RoleOf.{role_of}

@@ -1,5 +1,5 @@
 //! Small trees.
-ghost use Rattle.std.specs.Prelude.{◌≡◌, ℕ, IfOk, None};
+ghost use Rattle.std.specs.Prelude.{◌≡◌, ℕ, None};
 ghost use Rattle.oxt_stores.specs.Insertion.{pending};
 
 use oxt_ctx::context::TraverseCtx;
@@ -10,19 +10,19 @@ use oxt_scoping::scoping::Scoping;
 use oxt_symbol::flags::ScopeFlags;
 use oxt_table::kind::Kind;
 use oxt_table::word::Word;
-use oxt_tree::ids::{NodeId, NodeIds, OutOfMemory, Span};
+use oxt_tree::ids::{NodeId, NodeIds, Span};
 use oxt_tree::name::Name;
 use oxt_tree::tree::{Node, Part};
 use oxt_uid::uid::UidNames;
 use std::alloc::Global;
-
-type Made = Result<Part, OutOfMemory>;
+use std::process::Abort;
 
 /// A context in which nothing is known.
-pub fn context(alloc: Global) -> Result<TraverseCtx, OutOfMemory>
-    ensures { IfOk result (λ made. (n : ℕ) → pending made.injector n ≡ None) }
+pub fn context(rt: &impl Abort, alloc: Global) -> TraverseCtx
+    ensures { (n : ℕ) → pending result.injector n ≡ None }
 {
-    let scoping = Scoping::new(alloc, ScopeFlags::Top, UidNames::new(alloc))?;
+    let made = Scoping::new(alloc, ScopeFlags::Top, UidNames::new(alloc));
+    let scoping = made.expect(rt, "memory");
     let state = TransformState {
         module: Module::Preserve,
         set_public_class_fields: false,
@@ -30,7 +30,7 @@ pub fn context(alloc: Global) -> Result<TraverseCtx, OutOfMemory>
         is_class_properties_plugin_enabled: false,
     };
     let ids = NodeIds { next: 100 };
-    Ok(TraverseCtx::new(alloc, scoping, Plan::empty(alloc), state, ids))
+    TraverseCtx::new(alloc, scoping, Plan::empty(alloc), state, ids)
 }
 
 /// A node.
@@ -44,88 +44,92 @@ pub fn node(kind: Kind, parts: Vec<Part>) -> Part {
 }
 
 /// A module of TypeScript with these statements.
-pub fn program(alloc: Global, body: Vec<Part>) -> Result<Node, OutOfMemory> {
-    let parts = vec![in alloc;
+pub fn program(rt: &impl Abort, alloc: Global, body: Vec<Part>) -> Node {
+    let fields = vec![in alloc;
         Part::Word(Word::Module),
         Part::Word(Word::Ts),
         Part::Nothing,
         Part::List(Vec::new(alloc)),
         Part::List(body),
-    ]?;
-    Ok(Node {
+    ];
+    Node {
         kind: Kind::Program,
         id: NodeId(1),
         span: Span::NONE,
-        parts,
-    })
+        parts: fields.expect(rt, "memory"),
+    }
 }
 
 /// A node of one field.
-pub fn around(alloc: Global, kind: Kind, inner: Part) -> Made {
-    Ok(node(kind, vec![in alloc; inner]?))
+fn around(rt: &impl Abort, alloc: Global, kind: Kind, inner: Part) -> Part {
+    let parts = vec![in alloc; inner].expect(rt, "memory");
+    node(kind, parts)
 }
 
 /// A list of one element.
-pub fn list(alloc: Global, element: Part) -> Made {
-    Ok(Part::List(vec![in alloc; element]?))
+fn list(rt: &impl Abort, alloc: Global, element: Part) -> Part {
+    Part::List(vec![in alloc; element].expect(rt, "memory"))
 }
 
 /// A node of which the name is the one field.
-pub fn named(alloc: Global, kind: Kind, name: &str) -> Made {
-    around(alloc, kind, Part::Text(Name::new(alloc, name)?))
+fn named(rt: &impl Abort, alloc: Global, kind: Kind, name: &str) -> Part {
+    let name = Name::new(alloc, name).expect(rt, "memory");
+    around(rt, alloc, kind, Part::Text(name))
 }
 
-/// `: any`.
-pub fn annotation(alloc: Global) -> Made {
-    around(
-        alloc,
-        Kind::TSTypeAnnotation,
-        node(Kind::TSAnyKeyword, Vec::new(alloc)),
-    )
+/// `any`.
+fn any(alloc: Global) -> Part {
+    node(Kind::TSAnyKeyword, Vec::new(alloc))
 }
 
 /// `INNER as any`.
-pub fn as_any(alloc: Global, inner: Part) -> Made {
-    let any = node(Kind::TSAnyKeyword, Vec::new(alloc));
-    Ok(node(Kind::TSAsExpression, vec![in alloc; inner, any]?))
+fn as_any(rt: &impl Abort, alloc: Global, inner: Part) -> Part {
+    let parts = vec![in alloc; inner, any(alloc)].expect(rt, "memory");
+    node(Kind::TSAsExpression, parts)
+}
+
+/// `(INNER)`.
+fn inside(rt: &impl Abort, alloc: Global, inner: Part) -> Part {
+    around(rt, alloc, Kind::ParenthesizedExpression, inner)
+}
+
+/// `x: any = a`.
+fn declarator(rt: &impl Abort, alloc: Global) -> Part {
+    let id = named(rt, alloc, Kind::BindingIdentifier, "x");
+    let annotation = around(rt, alloc, Kind::TSTypeAnnotation, any(alloc));
+    let value = named(rt, alloc, Kind::IdentifierReference, "a");
+    let fields = vec![in alloc; id, annotation, Part::Flag(true), value];
+    let parts = fields.expect(rt, "memory");
+    node(Kind::VariableDeclarator, parts)
 }
 
 /// `const x: any = a`, or with `declare` in front of it.
-pub fn variable(alloc: Global, is_declared: bool) -> Made {
-    let id = named(alloc, Kind::BindingIdentifier, "x")?;
-    let value = named(alloc, Kind::IdentifierReference, "a")?;
-    let declarator = node(
-        Kind::VariableDeclarator,
-        vec![in alloc; id, annotation(alloc)?, Part::Flag(true), value]?,
-    );
-    let parts = vec![in alloc;
+pub fn variable(rt: &impl Abort, alloc: Global, is_declared: bool) -> Part {
+    let declarators = list(rt, alloc, declarator(rt, alloc));
+    let fields = vec![in alloc;
         Part::Word(Word::Const),
-        list(alloc, declarator)?,
+        declarators,
         Part::Flag(is_declared),
-    ]?;
-    Ok(node(Kind::VariableDeclaration, parts))
+    ];
+    let parts = fields.expect(rt, "memory");
+    node(Kind::VariableDeclaration, parts)
 }
 
 /// `interface T {}`.
-pub fn interface(alloc: Global) -> Made {
-    let id = named(alloc, Kind::BindingIdentifier, "T")?;
-    Ok(node(
-        Kind::TSInterfaceDeclaration,
-        vec![in alloc; id, Part::Flag(false)]?,
-    ))
+pub fn interface(rt: &impl Abort, alloc: Global) -> Part {
+    let id = named(rt, alloc, Kind::BindingIdentifier, "T");
+    let parts = vec![in alloc; id, Part::Flag(false)].expect(rt, "memory");
+    node(Kind::TSInterfaceDeclaration, parts)
 }
 
 /// `((a as any)!.b as any);`, with parentheses around each.
-pub fn wrappers(alloc: Global) -> Made {
-    let inner = as_any(alloc, named(alloc, Kind::IdentifierReference, "a")?)?;
-    let inner = around(alloc, Kind::ParenthesizedExpression, inner)?;
-    let object = around(alloc, Kind::TSNonNullExpression, inner)?;
-    let property = named(alloc, Kind::IdentifierName, "b")?;
-    let member = node(
-        Kind::StaticMemberExpression,
-        vec![in alloc; object, property, Part::Flag(false)]?,
-    );
-    let outer = as_any(alloc, member)?;
-    let outer = around(alloc, Kind::ParenthesizedExpression, outer)?;
-    around(alloc, Kind::ExpressionStatement, outer)
+pub fn wrappers(rt: &impl Abort, alloc: Global) -> Part {
+    let inner = as_any(rt, alloc, named(rt, alloc, Kind::IdentifierReference, "a"));
+    let inner = inside(rt, alloc, inner);
+    let object = around(rt, alloc, Kind::TSNonNullExpression, inner);
+    let property = named(rt, alloc, Kind::IdentifierName, "b");
+    let parts = vec![in alloc; object, property, Part::Flag(false)].expect(rt, "memory");
+    let outer = as_any(rt, alloc, node(Kind::StaticMemberExpression, parts));
+    let outer = inside(rt, alloc, outer);
+    around(rt, alloc, Kind::ExpressionStatement, outer)
 }

@@ -1,5 +1,5 @@
 //! Small trees.
-ghost use Rattle.std.specs.Prelude.{◌≡◌, ℕ, IfOk, None};
+ghost use Rattle.std.specs.Prelude.{◌≡◌, ℕ, None};
 ghost use Rattle.oxt_stores.specs.Insertion.{pending};
 
 use oxt_ctx::context::TraverseCtx;
@@ -10,16 +10,18 @@ use oxt_scoping::scoping::Scoping;
 use oxt_symbol::flags::ScopeFlags;
 use oxt_table::kind::Kind;
 use oxt_table::word::Word;
-use oxt_tree::ids::{NodeId, NodeIds, OutOfMemory, Span};
+use oxt_tree::ids::{NodeId, NodeIds, Span};
 use oxt_tree::tree::{Node, Part};
 use oxt_uid::uid::UidNames;
 use std::alloc::Global;
+use std::process::Abort;
 
 /// A context in which nothing is known, where numbers begin with 100.
-pub fn context(alloc: Global) -> Result<TraverseCtx, OutOfMemory>
-    ensures { IfOk result (λ made. (n : ℕ) → pending made.injector n ≡ None) }
+pub fn context(rt: &impl Abort, alloc: Global) -> TraverseCtx
+    ensures { (n : ℕ) → pending result.injector n ≡ None }
 {
-    let scoping = Scoping::new(alloc, ScopeFlags::Top, UidNames::new(alloc))?;
+    let made = Scoping::new(alloc, ScopeFlags::Top, UidNames::new(alloc));
+    let scoping = made.expect(rt, "memory");
     let state = TransformState {
         module: Module::Preserve,
         set_public_class_fields: false,
@@ -27,7 +29,7 @@ pub fn context(alloc: Global) -> Result<TraverseCtx, OutOfMemory>
         is_class_properties_plugin_enabled: false,
     };
     let ids = NodeIds { next: 100 };
-    Ok(TraverseCtx::new(alloc, scoping, Plan::empty(alloc), state, ids))
+    TraverseCtx::new(alloc, scoping, Plan::empty(alloc), state, ids)
 }
 
 /// A node.
@@ -51,32 +53,35 @@ pub fn class(alloc: Global, number: u64) -> Node {
 }
 
 /// A statement of the expression.
-pub fn statement(alloc: Global, number: u64, expression: Node) -> Result<Node, OutOfMemory> {
-    let parts = Vec::from_array(alloc, [Part::Node(expression)])?;
-    Ok(node(Kind::ExpressionStatement, number, parts))
+pub fn statement(rt: &impl Abort, alloc: Global, number: u64, expression: Node) -> Node {
+    let parts = vec![in alloc; Part::Node(expression)].expect(rt, "memory");
+    node(Kind::ExpressionStatement, number, parts)
 }
 
 /// A module with these two statements, which has the number 1.
-pub fn program(alloc: Global, first: Node, second: Node) -> Result<Node, OutOfMemory> {
-    let body = Vec::from_array(alloc, [Part::Node(first), Part::Node(second)])?;
-    let words = [
+pub fn program(rt: &impl Abort, alloc: Global, first: Node, second: Node) -> Node {
+    let body = vec![in alloc; Part::Node(first), Part::Node(second)].expect(rt, "memory");
+    let fields = vec![in alloc;
         Part::Word(Word::Module),
         Part::Word(Word::Ts),
         Part::Nothing,
         Part::Nothing,
+        Part::List(body),
     ];
-    let mut parts = Vec::from_array(alloc, words)?;
-    parts.push(Part::List(body))?;
-    Ok(node(Kind::Program, 1, parts))
+    let parts = fields.expect(rt, "memory");
+    node(Kind::Program, 1, parts)
 }
 
-/// The numbers of the statements of the program, in their order.
-pub fn numbers(alloc: Global, program: &Node) -> Result<Vec<u64>, OutOfMemory> {
-    let mut found = Vec::new(alloc);
-    for part in program.list("body") {
-        if let Part::Node(node) = part {
-            found.push(node.id.0)?;
-        }
+/// Whether the part is the node of that number.
+fn is_number(part: &Part, number: u64) -> bool {
+    match part {
+        Part::Node(node) => node.id.0 == number,
+        _ => false,
     }
-    Ok(found)
+}
+
+/// Whether the statements of the program are those of these numbers, in their order.
+pub fn has_numbers(program: &Node, first: u64, second: u64) -> bool {
+    let body = program.list("body");
+    body.len() == 2 && is_number(&body[0], first) && is_number(&body[1], second)
 }

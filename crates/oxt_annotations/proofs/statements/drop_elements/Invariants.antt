@@ -1,6 +1,7 @@
--- The same is left of each part.
+-- The same is left of each part; those before the index are without what stands for nothing.
 use Rattle.std.proofs.Common.{◌≡◌, length}
-use Rattle.oxt_annotations.specs.Stripped.{each_stripped}
+use Rattle.oxt_annotations.proofs.Elements.{changed_front}
+use Rattle.oxt_annotations.specs.Stripped.{each_stripped, body_left}
 use Rattle.oxt_tree.specs.View.{docs_in}
 use Rattle.oxt_annotations.proofs.statements.drop_elements.Given as goal
 
@@ -10,5 +11,6 @@ invariant-loop-i l = record {
   id : l.class.id ≡ l.initial.class.id;
   span : l.class.span ≡ l.initial.class.span;
   len : length l.class.parts.items ≡ length l.initial.class.parts.items;
+  done : docs_in l.class.parts.items ≡ changed_front body_left l.i (docs_in l.initial.class.parts.items);
   read : each_stripped (docs_in l.class.parts.items) ≡ each_stripped (docs_in l.initial.class.parts.items);
 }
