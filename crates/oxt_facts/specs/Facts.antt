@@ -8,6 +8,7 @@ use Rattle.oxt_table.specs.declared.kind.Kind.TheVariants as kind
 use Rattle.oxt_tree.specs.Doc.{Doc, nil, flag, number, text, list, node, Docs, no_docs, doc}
 use Rattle.oxt_tree.specs.Fields.{named, text_in}
 use Rattle.oxt_facts.specs.Privates.{Privates}
+use Rattle.oxt_facts.specs.Told.{Tellings}
 use Rattle.oxt_uid.specs.Made.{all_added, is_among}
 
 -- the name that a node itself binds
@@ -38,20 +39,25 @@ is_new names t = not (is_among t names) && not (bytes_eq t (codes "value"))
 abbrev pub made_in : List (List ℕ) → Doc → List (List ℕ)
 made_in names d = all_added (filter (is_new names) (bindings d)) []
 
--- what is known: whether the tree is the source, the made names, and the private names of the classes around
--- a place, the outermost first
+-- what is known: whether the tree is the source, what is told of its nodes, the made names, and the private names
+-- of the classes around a place, the outermost first
 pub record Known : Type 0 where
   pub is_source : Bool
+  pub told : Tellings
   pub made : List (List ℕ)
   pub classes : List Privates
 
--- of a source, in which no name is made
+-- of a source, in which no name is made, and of whose nodes that is told
+abbrev pub of_told_source : Tellings → Known
+of_told_source ts = record { is_source = true; told = ts; made = []; classes = [] }
+
+-- the same, where nothing is told
 abbrev pub of_source : Known
-of_source = record { is_source = true; made = []; classes = [] }
+of_source = of_told_source []
 
 -- of what was made of a source that has these names
 abbrev pub of_output : List (List ℕ) → Doc → Known
-of_output names d = record { is_source = false; made = made_in names d; classes = [] }
+of_output names d = record { is_source = false; told = []; made = made_in names d; classes = [] }
 
 -- the same in a class with these private names
 abbrev pub in_class : Privates → Known → Known

@@ -3,13 +3,15 @@ ghost use Rattle.std.specs.Prelude.{◌≡◌, ◌++◌, ◌∷◌, [], IfOk, On
 ghost use Rattle.oxt_tree.specs.Fields.{named, text_in};
 ghost use Rattle.oxt_tree.specs.View.{docs_in, node_doc, part_doc};
 ghost use Rattle.oxt_uid.specs.Made.{all_added, added, is_among};
-ghost use Rattle.oxt_facts.specs.Facts.{bindings, bindings_of_each, in_class, is_made, is_new, of_output, of_source, own_binding};
+ghost use Rattle.oxt_facts.specs.Facts.{bindings, bindings_of_each, in_class, is_made, is_new, of_output, of_source, of_told_source, own_binding};
+ghost use Rattle.oxt_facts.specs.Told.{told_of, told_view};
 ghost use Rattle.oxt_facts.specs.Privates.{stored_by, stored_in};
-ghost use Rattle.oxt_facts.specs.Shared.{all_shared, names_shared};
+ghost use Rattle.oxt_facts.specs.Shared.{all_shared, names_shared, told_shared};
 
 use crate::privates::ClassPrivates;
+use crate::told::{Told, ToldNodes};
 use oxt_table::kind::Kind;
-use oxt_tree::ids::OutOfMemory;
+use oxt_tree::ids::{NodeId, OutOfMemory};
 use oxt_tree::tree::{Node, Part};
 use oxt_uid::uid::UidNames;
 use std::alloc::Global;
@@ -21,30 +23,49 @@ use std::rc::Rc;
 pub struct Facts {
     alloc: Global,
     is_source: bool,
+    told: Option<Rc<ToldNodes>>,
     made: Option<Rc<UidNames>>,
     classes: Vec<Rc<ClassPrivates>>,
 }
 
 impl Model for Facts {
     ghost use Rattle.oxt_facts.specs.Facts.{Known};
-    ghost use Rattle.oxt_facts.specs.Shared.{all_shared, names_shared};
+    ghost use Rattle.oxt_facts.specs.Shared.{all_shared, names_shared, told_shared};
 
     ghost Value = { Known };
 
-    ghost view = { λ facts. record { is_source = facts.is_source; made = names_shared facts.made; classes = all_shared facts.classes.items } };
+    ghost view = { λ facts. record { is_source = facts.is_source; told = told_shared facts.told; made = names_shared facts.made; classes = all_shared facts.classes.items } };
 }
 
 impl Facts {
-    /// Of a source, in which no name is made.
+    /// Of a source, in which no name is made, and of whose nodes nothing is told.
     pub fn of_source(alloc: Global) -> Facts
         ensures { result ≡ of_source }
     {
         Facts {
             alloc,
             is_source: true,
+            told: None,
             made: None,
             classes: Vec::new(alloc),
         }
+    }
+
+    /// Of a source, in which no name is made, and of whose nodes that is told.
+    ///
+    /// # Errors
+    ///
+    /// Fails only where memory runs out.
+    pub fn of_told_source(alloc: Global, told: ToldNodes) -> Result<Facts, OutOfMemory>
+        ensures { IfOk result (λ facts. facts ≡ of_told_source told) }
+    {
+        Ok(Facts {
+            alloc,
+            is_source: true,
+            told: Some(Rc::new(alloc, told)?),
+            made: None,
+            classes: Vec::new(alloc),
+        })
     }
 
     /// Of what was made of a source that has these names: a name is made where a binding of the output
@@ -61,6 +82,7 @@ impl Facts {
         Ok(Facts {
             alloc,
             is_source: false,
+            told: None,
             made: Some(Rc::new(alloc, made)?),
             classes: Vec::new(alloc),
         })
@@ -76,6 +98,16 @@ impl Facts {
         ensures { result ≡ self.now.is_source }
     {
         self.is_source
+    }
+
+    /// What is told of the node.
+    pub fn told_of(&self, node: NodeId) -> Option<&Told>
+        ensures { option_map (λ told. told_view told.now) result ≡ told_of self.now.told node.0 }
+    {
+        match &self.told {
+            Some(told) => told.of(node),
+            None => None,
+        }
     }
 
     /// Whether the part is the spelling of a made name.
@@ -110,6 +142,7 @@ impl Facts {
         Ok(Facts {
             alloc: self.alloc,
             is_source: self.is_source,
+            told: told_again(&self.told)?,
             made: shared_again(&self.made)?,
             classes: with_class(self.alloc, &self.classes, class)?,
         })
@@ -174,6 +207,16 @@ fn shared_classes(classes: &Vec<Rc<ClassPrivates>>) -> Result<Vec<Rc<ClassPrivat
     ensures { IfOk result (λ v. all_shared v.items ≡ all_shared classes.now.items) }
 {
     Ok(classes.clone()?)
+}
+
+/// Another reference to the same.
+fn told_again(told: &Option<Rc<ToldNodes>>) -> Result<Option<Rc<ToldNodes>>, OutOfMemory>
+    ensures { IfOk result (λ again. told_shared again ≡ told_shared told.now) }
+{
+    match told {
+        Some(told) => Ok(Some(told.clone()?)),
+        None => Ok(None),
+    }
 }
 
 /// Another reference to the same names.

@@ -1,5 +1,5 @@
-//! What is known of the names of a tree: which of them are made, and which private names of classes
-//! store what an accessor with a made name as its key holds.
+//! What is known of a tree that is read: which of its names are made, which private names of classes store what an
+//! accessor with a made name as its key holds, and what is told of the nodes of a source.
 #![tactic(auto)]
 
 pub mod facts;
@@ -7,3 +7,4 @@ pub mod inside;
 pub mod privates;
 #[cfg(test)]
 mod tests;
+pub mod told;

@@ -1,11 +1,13 @@
 -- Tests on documents that decide how a node is read.
-use Rattle.std.specs.Prelude.{ℕ, ◌==◌, List, Bool, false, not, ◌&&◌, if◌then◌else◌, codes, nat_lt}
+use Rattle.std.specs.Prelude.{ℕ, ◌==◌, List, Bool, true, false, not, ◌&&◌, if◌then◌else◌, is_none, codes, nat_lt}
+use Rattle.oxt_facts.specs.Facts.{Known}
+use Rattle.oxt_facts.specs.Told.{told_of}
 use Rattle.oxt_table.specs.declared.category.Category.TheVariants as category
 use Rattle.oxt_table.specs.declared.kind.Kind.{Kind}
 use Rattle.oxt_table.specs.declared.kind.Kind.TheVariants as kind
 use Rattle.oxt_tree.specs.Fields.{first, count}
 use Rattle.oxt_tree.specs.Inner.{seen}
-use Rattle.oxt_tree.specs.Doc.{Doc, text, Docs}
+use Rattle.oxt_tree.specs.Doc.{Doc, nil, flag, number, text, list, node, Docs}
 use Rattle.oxt_tree.specs.Fields.{named, field_of, elements, is_nil, is_set, is_text, is_kind, is_in, is_empty_list}
 use Rattle.oxt_item.specs.declared.item.Binding.{Binding}
 use Rattle.oxt_item.specs.declared.item.Binding.TheVariants as binding
@@ -49,20 +51,32 @@ makes x d =
     && (is_name_again x (seen (field_of (codes "left") d))
     && is_empty_object (seen (field_of (codes "right") d))))
 
--- `x || ..` with a bare name
-abbrev pub is_choice : Kind → Docs → Bool
-is_choice k ds =
-    is_text (codes "||") (named (codes "operator") k ds)
-    && is_kind kind.IdentifierReference (within (codes "left") k ds)
+-- nothing is told of the node
+abbrev pub is_untold : Known → Doc → Bool
+is_untold f nil = true
+is_untold f (flag b) = true
+is_untold f (number n) = true
+is_untold f (text t) = true
+is_untold f (list ds) = true
+is_untold f (node k i b e ds) = is_none (told_of f.told i)
+
+-- a bare name that is read as one
+abbrev pub is_bare_name : Known → Doc → Bool
+is_bare_name f d = is_kind kind.IdentifierReference d && is_untold f d
+
+-- `x || ..` with such a name
+abbrev pub is_choice : Known → Kind → Docs → Bool
+is_choice f k ds =
+    is_text (codes "||") (named (codes "operator") k ds) && is_bare_name f (within (codes "left") k ds)
 
 -- `x || {}`
-abbrev pub is_found : Kind → Docs → Bool
-is_found k ds = is_choice k ds && is_empty_object (within (codes "right") k ds)
+abbrev pub is_found : Known → Kind → Docs → Bool
+is_found f k ds = is_choice f k ds && is_empty_object (within (codes "right") k ds)
 
 -- `x || (x = {})`
-abbrev pub is_found_made : Kind → Docs → Bool
-is_found_made k ds =
-    is_choice k ds && makes (within (codes "left") k ds) (within (codes "right") k ds)
+abbrev pub is_found_made : Known → Kind → Docs → Bool
+is_found_made f k ds =
+    is_choice f k ds && makes (within (codes "left") k ds) (within (codes "right") k ds)
 
 -- one element that is a node of its kind
 abbrev pub is_one : Docs → Bool

@@ -96,7 +96,7 @@ makes_on f x d =
 -- `x || (x = m || (m = {}))`
 abbrev pub is_found_made_on : Known → Kind → Docs → Bool
 is_found_made_on f k ds =
-    is_choice k ds && makes_on f (within (codes "left") k ds) (within (codes "right") k ds)
+    is_choice f k ds && makes_on f (within (codes "left") k ds) (within (codes "right") k ds)
 
 -- the member `m` in it
 abbrev pub base_in : Kind → Docs → Doc

@@ -212,7 +212,7 @@ fn holds_base_choice(facts: &Facts, node: &Node) -> bool
 pub fn is_found_made_on(facts: &Facts, node: &Node) -> bool
     ensures { result ≡ is_found_made_on facts.now node.now.kind (docs_in node.now.parts.items) }
 {
-    is_choice(node) && makes_left_on(facts, node)
+    is_choice(facts, node) && makes_left_on(facts, node)
 }
 
 /// Whether what stands on the right makes the name on the left, on a member of a made name.

@@ -4,8 +4,9 @@ ghost use Rattle.oxt_tree.specs.Fields.{count, first};
 ghost use Rattle.oxt_tree.specs.Inner.{seen};
 ghost use Rattle.oxt_tree.specs.Fields.{elements, field_of, is_empty_list, is_kind, is_nil, is_set, is_text, named};
 ghost use Rattle.oxt_tree.specs.View.{docs_in, doc_or_nil, node_doc, part_doc};
-ghost use Rattle.oxt_forms.specs.Forms.{binding_of, is_argument, is_bare_list, is_bare_parameter, is_called, is_callable, is_choice, is_empty_object, is_found, is_found_made, is_long, is_name_again, is_one, is_put, makes, same_text, within};
+ghost use Rattle.oxt_forms.specs.Forms.{binding_of, is_argument, is_bare_list, is_bare_parameter, is_called, is_callable, is_bare_name, is_choice, is_empty_object, is_found, is_found_made, is_long, is_name_again, is_one, is_put, makes, same_text, within};
 
+use oxt_facts::facts::Facts;
 use oxt_item::item::Binding;
 use oxt_table::category::Category;
 use oxt_table::kind::Kind;
@@ -139,29 +140,41 @@ pub(crate) fn holds_empty_object(node: &Node, name: &str) -> bool
     }
 }
 
-/// Whether it is `x || ..` with a bare name.
-pub(crate) fn is_choice(node: &Node) -> bool
-    ensures { result ≡ is_choice node.now.kind (docs_in node.now.parts.items) }
+/// Whether it is a bare name that is read as one.
+fn is_bare_name(facts: &Facts, part: &Part) -> bool
+    ensures { result ≡ is_bare_name facts.now (part_doc part.now) }
+{
+    match part {
+        Part::Node(node) => {
+            node.kind.is(Kind::IdentifierReference) && facts.told_of(node.id).is_none()
+        }
+        _ => false,
+    }
+}
+
+/// Whether it is `x || ..` with such a name.
+pub(crate) fn is_choice(facts: &Facts, node: &Node) -> bool
+    ensures { result ≡ is_choice facts.now node.now.kind (docs_in node.now.parts.items) }
 {
     node.holds_text("operator", "||")
         && match within(node, "left") {
-            Some(left) => left.is_kind(Kind::IdentifierReference),
+            Some(left) => is_bare_name(facts, left),
             None => false,
         }
 }
 
 /// Whether it is `x || {}`.
-pub fn is_found(node: &Node) -> bool
-    ensures { result ≡ is_found node.now.kind (docs_in node.now.parts.items) }
+pub fn is_found(facts: &Facts, node: &Node) -> bool
+    ensures { result ≡ is_found facts.now node.now.kind (docs_in node.now.parts.items) }
 {
-    is_choice(node) && holds_empty_object(node, "right")
+    is_choice(facts, node) && holds_empty_object(node, "right")
 }
 
 /// Whether it is `x || (x = {})`.
-pub fn is_found_made(node: &Node) -> bool
-    ensures { result ≡ is_found_made node.now.kind (docs_in node.now.parts.items) }
+pub fn is_found_made(facts: &Facts, node: &Node) -> bool
+    ensures { result ≡ is_found_made facts.now node.now.kind (docs_in node.now.parts.items) }
 {
-    is_choice(node) && makes_left(node)
+    is_choice(facts, node) && makes_left(node)
 }
 
 /// Whether what stands on the right makes the name on the left.

@@ -1,4 +1,1 @@
-pub mod Appends
-pub mod Details
-pub mod Drops
 pub mod Loops

@@ -8,7 +8,7 @@ use Rattle.oxt_tree.specs.Syntax.{is_mere_declaration, lacks_body}
 use Rattle.oxt_item.specs.Entry.{Entry, lone}
 use Rattle.oxt_item.specs.declared.item.Binding.TheVariants as binding
 use Rattle.oxt_item.specs.declared.item.ItemKind.TheVariants as item
-use Rattle.oxt_word.specs.Node.{start}
+use Rattle.oxt_put.specs.Details.{start}
 use Rattle.oxt_word.specs.declared.rule.Rule.{Rule}
 use Rattle.oxt_word.specs.declared.rule.Rule.TheVariants as rule
 use Rattle.oxt_word.specs.declared.way.Way.{Way}
@@ -17,6 +17,7 @@ use Rattle.oxt_word.specs.declared.way.Way.TheVariants as way
 -- erased by its kind, by `declare` or `type`, or for want of a body
 abbrev pub is_gone : Rule → Kind → Docs → Bool
 is_gone rule.Erased k ds = true
+is_gone rule.EnumBlock k ds = is_set (named (codes "declare") k ds)
 is_gone rule.Variables k ds = is_set (named (codes "declare") k ds)
 is_gone rule.FunctionDeclaration k ds = is_set (named (codes "declare") k ds)
 is_gone rule.ClassDeclaration k ds = is_set (named (codes "declare") k ds)

@@ -1,3 +1,4 @@
+pub mod Enums
 pub mod Erased
 pub mod Node
 pub mod RuleOf

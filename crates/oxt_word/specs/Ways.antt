@@ -8,8 +8,10 @@ use Rattle.oxt_item.specs.Entry.{Entry, detail, detailed, lone, spelled}
 use Rattle.oxt_facts.specs.Facts.{Known, is_made}
 use Rattle.oxt_forms.specs.Forms.{is_long}
 use Rattle.oxt_forms.specs.Made.{is_passing, is_quiet, passes_on}
-use Rattle.oxt_word.specs.Node.{start, opened, OneField, AllFields}
-use Rattle.oxt_word.specs.Whole.{bind_word, class_word, declarator_word, function_word, number_word, private_word, variables_word, whole_word}
+use Rattle.oxt_put.specs.Details.{start}
+use Rattle.oxt_put.specs.Leaves.{bind_word, in_word, number_word, private_word}
+use Rattle.oxt_word.specs.Node.{opened, OneField, AllFields}
+use Rattle.oxt_word.specs.Whole.{class_word, declarator_word, function_word, variables_word, whole_word}
 use Rattle.oxt_item.specs.declared.item.Binding.{Binding}
 use Rattle.oxt_item.specs.declared.item.ItemKind.TheVariants as item
 use Rattle.oxt_word.specs.declared.rule.Rule.{Rule}
@@ -41,11 +43,6 @@ exported_word f rule.Variables k ds c fs = variables_word true k ds c fs
 exported_word f rule.FunctionDeclaration k ds c fs = function_word true k ds c
 exported_word f rule.ClassDeclaration k ds c fs = class_word true k ds c
 exported_word f r k ds c fs = whole_word f r k ds c fs
-
--- the entry into a called function, whose parameter may have a made name
-abbrev pub in_word : Known → Bool → Docs → List Entry
-in_word f p ds =
-    detailed (if is_made f (first ds) then item.InMade else item.In) (detail (first ds)) (flag p ∷ [])
 
 -- A function that is called where it stands is the entry with its parameter, its body and its end.
 abbrev pub entered_word : Known → Bool → Rule → Kind → Docs → OneField → AllFields → List Entry

@@ -10,7 +10,9 @@ use Rattle.oxt_facts.specs.Facts.{Known, is_made}
 use Rattle.oxt_forms.specs.Forms.{within, is_put, is_long, is_found, is_found_made, is_called, binding_of}
 use Rattle.oxt_forms.specs.Made.{base_in, base_key, base_name, is_found_made_on, is_keep, is_silent}
 use Rattle.oxt_facts.specs.Inside.{stored_at}
-use Rattle.oxt_word.specs.Node.{start, opened, OneField, AllFields}
+use Rattle.oxt_put.specs.Details.{start}
+use Rattle.oxt_put.specs.Leaves.{base_word, bind_word, dropped, hash_word, name_word, number_word, private_word}
+use Rattle.oxt_word.specs.Node.{opened, OneField, AllFields}
 use Rattle.oxt_item.specs.declared.item.Binding.{Binding}
 use Rattle.oxt_item.specs.declared.item.ItemKind.{ItemKind}
 use Rattle.oxt_item.specs.declared.item.Binding.TheVariants as binding
@@ -19,53 +21,6 @@ use Rattle.oxt_word.specs.declared.rule.Rule.{Rule}
 use Rattle.oxt_word.specs.declared.rule.Rule.TheVariants as rule
 use Rattle.oxt_word.specs.declared.way.Way.{Way}
 use Rattle.oxt_word.specs.declared.way.Way.TheVariants as way
-
--- the use of a name, which may be made
-abbrev pub name_word : Known → Docs → List Entry
-name_word f ds =
-    if is_made f (first ds) then spelled item.Made (detail (first ds))
-    else spelled item.Name (detail (first ds))
-
--- the made name, or else the private name
-abbrev pub private_or : Docs → Option (List ℕ) → List Entry
-private_or ds None = spelled item.Private (detail (first ds))
-private_or ds (Some m) = spelled item.PrivateMade (text m)
-
--- a private name, which may stand for a made name
-abbrev pub private_word : Known → Docs → List Entry
-private_word f ds = private_or ds (stored_at f (first ds))
-
--- a declared name, which may be made
-abbrev pub bind_word : Known → Binding → Bool → Docs → List Entry
-bind_word f b x ds =
-    detailed (if is_made f (first ds) then item.BindMade else item.Bind) (detail (first ds))
-    (text (binding_text b) ∷ flag x ∷ [])
-
--- The kind of a value that a made name holds.
-abbrev pub is_kept_kind : ItemKind → Bool
-is_kept_kind item.Keep = true
-is_kept_kind m = false
-
--- A value that a made name holds comes last.
-abbrev pub ends_kept : List Entry → Bool
-ends_kept [] = false
-ends_kept (e ∷ []) = is_kept_kind e.kind
-ends_kept (e ∷ es) = ends_kept es
-
--- What computes a value that is dropped. One that a made name holds is not.
-abbrev pub dropped : List Entry → List Entry
-dropped w = if ends_kept w then w else w ++ lone item.Eval
-
--- a number, or its raw text where it has no value
-abbrev pub number_word : Kind → Docs → List Entry
-number_word k ds =
-    spelled item.Num (detail (if is_nil (named (codes "value") k ds)
-    then named (codes "raw") k ds
-    else named (codes "value") k ds))
-
--- the first line for the system, where there is one
-abbrev pub hash_word : Doc → List Entry
-hash_word d = if is_nil d then [] else spelled item.Hash (detail d)
 
 -- A member is its object, its key and the read.
 abbrev pub get_word : List ℕ → Way → Kind → Docs → OneField → List Entry
@@ -113,16 +68,12 @@ object_word k ds f =
     if is_empty_list (named (codes "properties") k ds) then lone item.New
     else opened k ds (f way.Whole)
 
--- the made name and the key of the member `m` in `x || (x = m || (m = {}))`
-abbrev pub base_word : Doc → List Entry
-base_word m = spelled item.Made (detail (base_name m)) ++ spelled item.Str (detail (base_key m))
-
 -- `x || {}` is what x holds or the empty object; `x || (x = {})` the same, which x then holds;
 -- `x || (x = b.k || (b.k = {}))` the same, which stands on b under k.
 abbrev pub logical_word : Known → Kind → Docs → OneField → AllFields → List Entry
 logical_word f k ds c fs =
-    if is_found k ds then c (codes "left") way.Whole ++ lone item.Found
-    else if is_found_made k ds then c (codes "left") way.Whole ++ lone item.FoundMade
+    if is_found f k ds then c (codes "left") way.Whole ++ lone item.Found
+    else if is_found_made f k ds then c (codes "left") way.Whole ++ lone item.FoundMade
     else if is_found_made_on f k ds
     then c (codes "left") way.Whole ++ (base_word (base_in k ds) ++ lone item.FoundMadeOn)
     else opened k ds (fs way.Whole)

@@ -1,8 +1,9 @@
 -- The effect word of a document: what its code does, as a flat list of items.
-use Rattle.std.specs.Prelude.{ℕ, List, [], ◌∷◌, ◌++◌, if◌then◌else◌}
+use Rattle.std.specs.Prelude.{ℕ, List, [], ◌∷◌, ◌++◌, if◌then◌else◌, Option, None, Some}
 use Rattle.std.specs.Str.{bytes_eq}
 use Rattle.oxt_facts.specs.Facts.{Known}
 use Rattle.oxt_facts.specs.Inside.{inside}
+use Rattle.oxt_facts.specs.Told.{Telling, block, member, bare, told_of}
 use Rattle.oxt_table.specs.Field.{Field}
 use Rattle.oxt_table.specs.Rows.{row_of}
 use Rattle.oxt_table.specs.declared.kind.Kind.{Kind}
@@ -11,11 +12,14 @@ use Rattle.oxt_tree.specs.View.{docs_in}
 use Rattle.oxt_tree.specs.declared.tree.Node.{Node}
 use Rattle.oxt_item.specs.Entry.{Entry, lone}
 use Rattle.oxt_item.specs.Tags.{numbered}
-use Rattle.oxt_word.specs.Node.{is_read, OneField, AllFields}
+use Rattle.oxt_put.specs.Details.{is_read}
+use Rattle.oxt_put.specs.Leaves.{dropped}
+use Rattle.oxt_word.specs.Node.{OneField, AllFields}
+use Rattle.oxt_word.specs.Enums.{bare_word, enum_word, is_exported, member_word}
 use Rattle.oxt_word.specs.Erased.{is_gone, gone_word}
 use Rattle.oxt_word.specs.RuleOf.{rule_of}
 use Rattle.oxt_word.specs.Ways.{target_word, bound_word, exported_word, entered_word, opened_word, passed_word, keyed_word, key_text, keys_word, statics_word, fields_word, methods_word, constructor_word}
-use Rattle.oxt_word.specs.Whole.{dropped, whole_word}
+use Rattle.oxt_word.specs.Whole.{whole_word}
 use Rattle.oxt_item.specs.declared.item.ItemKind.TheVariants as item
 use Rattle.oxt_word.specs.declared.rule.Rule.{Rule}
 use Rattle.oxt_word.specs.declared.way.Way.{Way}
@@ -38,9 +42,17 @@ way_word f way.Methods r k ds c fs = methods_word f r k ds c fs
 way_word f way.Constructor r k ds c fs = constructor_word f r k ds c fs
 way_word f w r k ds c fs = whole_word f r k ds c fs
 
--- the same, unless it is erased
-abbrev pub node_word : Known → Way → Rule → Kind → Docs → OneField → AllFields → List Entry
-node_word f w r k ds c fs = if is_gone r k ds then gone_word w else way_word f w r k ds c fs
+-- the same, but for what is told of the node
+abbrev pub told_word : Known → Option Telling → Way → Rule → Kind → Docs → OneField → AllFields → List Entry
+told_word f None w r k ds c fs = way_word f w r k ds c fs
+told_word f (Some (block b)) w r k ds c fs = enum_word b (is_exported w) c
+told_word f (Some (member m)) w r k ds c fs = member_word m c
+told_word f (Some (bare e)) w r k ds c fs = bare_word e w ds
+
+-- the same of the node of that number, unless it is erased
+abbrev pub node_word : Known → ℕ → Way → Rule → Kind → Docs → OneField → AllFields → List Entry
+node_word f i w r k ds c fs =
+    if is_gone r k ds then gone_word w else told_word f (told_of f.told i) w r k ds c fs
 
 -- what the elements of a list do, in order: read so, in turn, or the last alone
 abbrev pub list_word : Way → AllFields → AllFields → AllFields → List Entry
@@ -68,7 +80,7 @@ abbrev mutual
   said f (text t) w = []
   said f (list ds) w = list_word w (each_said f ds) (turns_said f ds) (last_said f ds)
   said f (node k i b e ds) w =
-      node_word (inside f k ds) w (rule_of k) k ds
+      node_word (inside f k ds) i w (rule_of k) k ds
       (field_said (inside f k ds) ds (row_of k)) (fields_said (inside f k ds) ds (row_of k))
 
   pub each_said : Known → Docs → Way → List Entry

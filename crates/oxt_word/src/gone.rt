@@ -5,12 +5,12 @@ ghost use Rattle.oxt_tree.specs.Fields.{named};
 ghost use Rattle.oxt_tree.specs.Syntax.{is_mere_declaration};
 ghost use Rattle.oxt_tree.specs.View.{docs_in};
 ghost use Rattle.oxt_word.specs.Erased.{gone_word, is_gone};
-ghost use Rattle.oxt_word.specs.Node.{start};
+ghost use Rattle.oxt_put.specs.Details.{start};
 
-use crate::put::{put_lone, put_start};
 use crate::rule::Rule;
 use crate::way::Way;
 use oxt_item::item::{Binding, Item, ItemKind};
+use oxt_put::put::{put_lone, put_start};
 use oxt_table::kind::Kind;
 use oxt_tree::ids::OutOfMemory;
 use oxt_tree::tree::Node;
@@ -22,6 +22,7 @@ pub fn is_gone(rule: Rule, node: &Node) -> bool
 {
     match rule {
         Rule::Erased => true,
+        Rule::EnumBlock => node.flag("declare"),
         Rule::Variables => node.flag("declare"),
         Rule::FunctionDeclaration => node.flag("declare"),
         Rule::ClassDeclaration => node.flag("declare"),

@@ -2,9 +2,11 @@
 #![tactic(auto)]
 
 mod class;
+mod enums;
 mod gone;
-mod put;
 pub mod rule;
 pub mod rule_of;
+#[cfg(test)]
+mod tests;
 pub mod way;
 pub mod word;

@@ -77,6 +77,8 @@ pub enum Rule {
     ClassField(bool),
     /// A static block of a class.
     StaticBlock,
+    /// A block of an enum.
+    EnumBlock,
     /// A choice between statements.
     If,
     /// A loop.

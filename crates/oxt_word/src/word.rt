@@ -3,26 +3,27 @@ ghost use Rattle.std.specs.Prelude.{◌≡◌, [], ◌++◌, IfOk, OnOk, codes, 
 ghost use Rattle.oxt_table.specs.Field.{row_view};
 ghost use Rattle.oxt_tree.specs.View.{docs_in, node_doc, part_doc};
 ghost use Rattle.oxt_item.specs.Entry.{entries, lone};
-ghost use Rattle.oxt_word.specs.Node.{is_read, opened};
+ghost use Rattle.oxt_put.specs.Details.{is_read};
+ghost use Rattle.oxt_put.specs.Leaves.{dropped};
+ghost use Rattle.oxt_word.specs.Node.{opened};
 ghost use Rattle.oxt_word.specs.RuleOf.{rule_of};
 ghost use Rattle.oxt_word.specs.Ways.{bound_word, entered_word, exported_word, target_word};
-ghost use Rattle.oxt_word.specs.Whole.{arrow_word, assignment_word, body_word, call_word, declarator_word, dropped, export_list_word, function_word, get_word, if_word, import_word, logical_word, object_word, sequence_word, variables_word, whole_word};
-ghost use Rattle.oxt_word.specs.Word.{all_fields, each_field, each_said, fields_said, last_said, list_word, node_word, said, turns_said, way_word, word};
+ghost use Rattle.oxt_word.specs.Whole.{arrow_word, assignment_word, body_word, call_word, declarator_word, export_list_word, function_word, get_word, if_word, import_word, logical_word, object_word, sequence_word, variables_word, whole_word};
+ghost use Rattle.oxt_word.specs.Word.{all_fields, each_field, each_said, fields_said, last_said, list_word, node_word, said, told_word, turns_said, way_word, word};
+ghost use Rattle.oxt_facts.specs.Told.{told_of};
 
 use crate::class::{
     put_class, put_class_expression, put_constructor, put_instance_fields, put_key_text, put_keyed,
     put_keys, put_methods, put_opened, put_passed, put_statics,
 };
+use crate::enums::{is_exported, put_bare, put_enum, put_member};
 use crate::gone::{is_gone, put_gone};
-use crate::put::{
-    is_read, put_base, put_bind, put_dropped, put_first, put_hash, put_in, put_lone, put_name,
-    put_number, put_open, put_private, put_spelled, put_start, target_atom,
-};
 use crate::rule::Rule;
 use crate::rule_of::rule_of;
 use crate::way::Way;
 use oxt_facts::facts::Facts;
 use oxt_facts::inside::inside;
+use oxt_facts::told::Told;
 use oxt_forms::base::is_found_made_on;
 use oxt_forms::forms::{
     binding_of, is_called, is_found, is_found_made, is_long, is_put, lists_nothing,
@@ -30,6 +31,10 @@ use oxt_forms::forms::{
 use oxt_forms::made::{is_keep, is_silent};
 use oxt_item::item::{Atom, Binding, Item, ItemKind};
 use oxt_item::tags::number_tags;
+use oxt_put::put::{
+    is_read, put_base, put_bind, put_dropped, put_first, put_hash, put_in, put_lone, put_name,
+    put_number, put_open, put_private, put_spelled, put_start, target_atom,
+};
 use oxt_table::holds::Row;
 use oxt_table::kind::Kind;
 use oxt_tree::fields::place_of;
@@ -68,14 +73,35 @@ fn put_node(facts: &Facts, node: &Node, way: Way, out: &mut Vec<Item>) -> Result
 #[cycle(word)]
 fn put_known(facts: &Facts, node: &Node, way: Way, out: &mut Vec<Item>) -> Result<(), OutOfMemory>
     ensures { OnOk result (entries out.new.items
-        ≡ entries out.old.items ++ node_word facts.now way (rule_of node.now.kind) node.now.kind
+        ≡ entries out.old.items ++ node_word facts.now node.now.id.0 way (rule_of node.now.kind) node.now.kind
         (docs_in node.now.parts.items) (each_field facts.now node.now) (all_fields facts.now node.now)) }
 {
     let rule = rule_of(node.kind);
     if is_gone(rule, node) {
         put_gone(facts.memory(), way, out)
     } else {
-        put_way(facts, way, rule, node, out)
+        put_told(facts, way, rule, node, out)
+    }
+}
+
+/// Puts what the node, which is not erased, does by what is told of it, or else by its rule, read that way.
+#[cycle(word)]
+fn put_told(
+    facts: &Facts,
+    way: Way,
+    rule: Rule,
+    node: &Node,
+    out: &mut Vec<Item>,
+) -> Result<(), OutOfMemory>
+    ensures { OnOk result (entries out.new.items
+        ≡ entries out.old.items ++ told_word facts.now (told_of facts.now.told node.now.id.0) way rule node.now.kind
+        (docs_in node.now.parts.items) (each_field facts.now node.now) (all_fields facts.now node.now)) }
+{
+    match facts.told_of(node.id) {
+        None => put_way(facts, way, rule, node, out),
+        Some(Told::Block(block)) => put_enum(facts, block, is_exported(way), node, out),
+        Some(Told::Member(member)) => put_member(facts, member, node, out),
+        Some(Told::Bare(owner)) => put_bare(facts.memory(), owner, way, node, out),
     }
 }
 
@@ -172,7 +198,7 @@ fn put_turns(
 
 /// Puts what the part does, which is dropped or else read that way.
 #[cycle(word)]
-#[tactic(auto, using(crate::proofs::Drops::behind))]
+#[tactic(auto, using(oxt_put::proofs::Drops::behind))]
 fn put_turn(
     facts: &Facts,
     part: &Part,
@@ -351,7 +377,7 @@ fn put_program(facts: &Facts, node: &Node, out: &mut Vec<Item>) -> Result<(), Ou
 
 /// Puts a statement that drops a value.
 #[cycle(word)]
-#[tactic(auto, using(crate::proofs::Drops::behind))]
+#[tactic(auto, using(oxt_put::proofs::Drops::behind))]
 fn put_statement(facts: &Facts, node: &Node, out: &mut Vec<Item>) -> Result<(), OutOfMemory>
     ensures { OnOk result (entries out.new.items
         ≡ entries out.old.items ++ whole_word facts.now Rule.Statement node.now.kind
@@ -479,11 +505,11 @@ fn put_logical(facts: &Facts, node: &Node, out: &mut Vec<Item>) -> Result<(), Ou
         ≡ entries out.old.items ++ logical_word facts.now node.now.kind (docs_in node.now.parts.items)
         (each_field facts.now node.now) (all_fields facts.now node.now)) }
 {
-    if is_found(node) {
+    if is_found(facts, node) {
         put_field(facts, node, "left", Way::Whole, out)?;
         return put_lone(facts.memory(), ItemKind::Found, out);
     }
-    if is_found_made(node) {
+    if is_found_made(facts, node) {
         put_field(facts, node, "left", Way::Whole, out)?;
         return put_lone(facts.memory(), ItemKind::FoundMade, out);
     }

@@ -1,0 +1,4 @@
+pub mod Clashes
+pub mod Names
+pub mod Symbols
+pub mod Walks

@@ -1,0 +1,10 @@
+//! The blocks of enums and namespaces: which of them are first, and whether they merge.
+#![tactic(auto)]
+
+pub mod clash;
+pub mod first;
+mod places;
+mod sort;
+mod sought;
+#[cfg(test)]
+mod tests;

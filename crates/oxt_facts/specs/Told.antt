@@ -1,0 +1,67 @@
+-- What is told of the nodes of a source that are read by rules for TypeScript alone: of the blocks of its enums,
+-- of their members, and of the bare names that mean members.
+use Rattle.std.specs.Prelude.{ℕ, List, map, Bool, nat_eq, Option}
+use Rattle.std.specs.Map.{lookup}
+use Rattle.oxt_facts.specs.declared.told.MemberValue.{MemberValue}
+use Rattle.oxt_facts.specs.declared.told.MemberValue.TheVariants as member_value
+use Rattle.oxt_facts.specs.declared.told.Told.{Told}
+use Rattle.oxt_facts.specs.declared.told.Told.TheVariants as told
+use Rattle.oxt_facts.specs.declared.told.ToldBlock.{ToldBlock}
+use Rattle.oxt_facts.specs.declared.told.ToldMember.{ToldMember}
+use Rattle.oxt_symbol.specs.Constant.{Constant, constant_view}
+use Rattle.oxt_tree.specs.Names.{name_bytes}
+
+-- the value of a member: a constant, one more than the member of that name, or what is written
+pub data Value : Type 0 where
+  constant : Constant → Value
+  following : List ℕ → Value
+  written : Value
+
+-- a block of an enum: its name, whether nothing of its name emits code before it, whether the program's own scope
+-- declares it, and whether its call has no effects of its own
+pub record Block : Type 0 where
+  pub name : List ℕ
+  pub is_first : Bool
+  pub is_top : Bool
+  pub is_pure : Bool
+
+-- a member: the name of its enum, its own, its value, and whether it can be looked up by its value
+pub record Member : Type 0 where
+  pub owner : List ℕ
+  pub name : List ℕ
+  pub value : Value
+  pub is_reversed : Bool
+
+-- what is told of a node; of a bare name, the enum whose member it means
+pub data Telling : Type 0 where
+  block : Block → Telling
+  member : Member → Telling
+  bare : List ℕ → Telling
+
+-- what is told of nodes, by their numbers
+abbrev pub Tellings : Type 0
+Tellings = List (ℕ × Telling)
+
+abbrev pub told_of : Tellings → ℕ → Option Telling
+told_of ts i = lookup (nat_eq i) ts
+
+-- ---- as contracts see what the program has
+
+abbrev pub value_view : MemberValue → Value
+value_view (member_value.Constant c) = constant (constant_view c)
+value_view (member_value.Following name) = following (name_bytes name)
+value_view member_value.Written = written
+
+abbrev pub block_view : ToldBlock → Block
+block_view b = record { name = name_bytes b.name; is_first = b.is_first; is_top = b.is_top; is_pure = b.is_pure }
+
+abbrev pub member_view : ToldMember → Member
+member_view m = record { owner = name_bytes m.owner; name = name_bytes m.name; value = value_view m.value; is_reversed = m.is_reversed }
+
+abbrev pub told_view : Told → Telling
+told_view (told.Block b) = block (block_view b)
+told_view (told.Member m) = member (member_view m)
+told_view (told.Bare name) = bare (name_bytes name)
+
+abbrev pub told_views : List (ℕ × Told) → Tellings
+told_views es = map (λ e. (e.0, told_view e.1)) es

@@ -1,0 +1,107 @@
+//! What is told of nodes of a source that are read by rules for TypeScript alone.
+ghost use Rattle.std.specs.Prelude.{◌≡◌, [], nat_eq, OnOk, option_map};
+ghost use Rattle.indexmap.specs.IndexMap.{insert_entry};
+ghost use Rattle.oxt_facts.specs.Told.{told_of, told_view};
+
+use indexmap::IndexMap;
+use oxt_symbol::constant::ConstantValue;
+use oxt_tree::ids::{NodeId, OutOfMemory};
+use oxt_tree::name::Name;
+use std::alloc::Global;
+use std::marker::Model;
+
+/// The value of a member of an enum.
+#[derive(Debug, Drop)]
+pub enum MemberValue {
+    /// A constant.
+    Constant(ConstantValue),
+    /// One more than the member of that name, whose value is known when the code runs.
+    Following(Name),
+    /// What is written.
+    Written,
+}
+
+/// What is told of a block of an enum.
+#[derive(Debug, Drop)]
+pub struct ToldBlock {
+    /// The enum's name.
+    pub name: Name,
+    /// Whether nothing of its name emits code before it.
+    pub is_first: bool,
+    /// Whether the program's own scope declares it.
+    pub is_top: bool,
+    /// Whether its call has no effects of its own.
+    pub is_pure: bool,
+}
+
+/// What is told of a member of an enum.
+#[derive(Debug, Drop)]
+pub struct ToldMember {
+    /// The enum's name.
+    pub owner: Name,
+    /// The member's name.
+    pub name: Name,
+    /// Its value.
+    pub value: MemberValue,
+    /// Whether it can be looked up by its value.
+    pub is_reversed: bool,
+}
+
+/// What is told of a node.
+#[derive(Debug, Drop)]
+pub enum Told {
+    /// It is a block of an enum.
+    Block(ToldBlock),
+    /// It is a member of an enum.
+    Member(ToldMember),
+    /// It is a bare name that means a member of the enum of that name.
+    Bare(Name),
+}
+
+/// What is told of nodes, by their numbers.
+#[derive(Drop)]
+pub struct ToldNodes {
+    nodes: IndexMap<u64, Told>,
+}
+
+impl Model for ToldNodes {
+    ghost use Rattle.oxt_facts.specs.Told.{Tellings, told_views};
+
+    ghost Value = { Tellings };
+
+    ghost view = { λ t. told_views t.nodes.entries };
+}
+
+impl ToldNodes {
+    /// Nothing is told.
+    pub fn new(alloc: Global) -> ToldNodes
+        ensures { result ≡ [] }
+    {
+        ToldNodes {
+            nodes: IndexMap::new(alloc),
+        }
+    }
+
+    /// Tells that of the node, in place of what was told of it.
+    ///
+    /// # Errors
+    ///
+    /// Fails only where memory runs out.
+    #[tactic(auto, using(crate::proofs::Tells::told_more))]
+    pub fn tell(&mut self, node: NodeId, told: Told) -> Result<(), OutOfMemory>
+        ensures { OnOk result (self.new ≡ insert_entry nat_eq self.old node.0 (told_view told)) }
+    {
+        let_go(self.nodes.insert(node.0, told)?);
+        Ok(())
+    }
+
+    /// What is told of the node.
+    pub fn of(&self, node: NodeId) -> Option<&Told>
+        ensures { option_map (λ told. told_view told.now) result ≡ told_of self.now node.0 }
+    {
+        self.nodes.get(&node.0)
+    }
+}
+
+/// Drops what was told before.
+fn let_go(_earlier: Option<Told>) {}

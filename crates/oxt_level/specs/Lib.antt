@@ -1,0 +1,5 @@
+pub mod Level
+pub mod Reaches
+pub mod Silent
+pub mod Views
+pub mod Words

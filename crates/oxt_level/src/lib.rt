@@ -1,0 +1,9 @@
+//! Words whose meaning the function around them gives, found at the level of a piece of code.
+#![tactic(auto)]
+
+pub mod level;
+mod reach;
+mod silent;
+#[cfg(test)]
+mod tests;
+pub mod word;

@@ -1,0 +1,61 @@
+-- Nodes that are made.
+use Rattle.std.specs.Prelude.{ℕ, List, codes, false}
+use Rattle.oxt_table.specs.declared.kind.Kind.{Kind}
+use Rattle.oxt_table.specs.declared.kind.Kind.TheVariants as kind
+use Rattle.oxt_tree.specs.Doc.{Doc, nil, flag, number, text, list, node, Docs, no_docs, doc}
+
+-- a node that has no place in a source text
+abbrev pub made : Kind → ℕ → Docs → Doc
+made k n ds = node k n 0 0 ds
+
+-- the name of a property
+abbrev pub property_name : ℕ → List ℕ → Doc
+property_name n t = made kind.IdentifierName n (doc (text t) no_docs)
+
+-- a text
+abbrev pub string_literal : ℕ → List ℕ → Doc
+string_literal n t = made kind.StringLiteral n (doc (text t) (doc nil no_docs))
+
+-- a whole number
+abbrev pub number_literal : ℕ → ℕ → Doc
+number_literal n v = made kind.NumericLiteral n (doc (number v) (doc nil no_docs))
+
+-- `-e`
+abbrev pub negative : ℕ → Doc → Doc
+negative n e = made kind.UnaryExpression n (doc (text (codes "-")) (doc e no_docs))
+
+-- a member of an object that is not optional
+abbrev pub access : Kind → ℕ → Doc → Doc → Doc
+access k n object key = made k n (doc object (doc key (doc (flag false) no_docs)))
+
+-- `object.property`
+abbrev pub member : ℕ → Doc → Doc → Doc
+member n object property = access kind.StaticMemberExpression n object property
+
+-- `object[key]`
+abbrev pub computed : ℕ → Doc → Doc → Doc
+computed n object key = access kind.ComputedMemberExpression n object key
+
+-- `target = value`
+abbrev pub assignment : ℕ → Doc → Doc → Doc
+assignment n target value = made kind.AssignmentExpression n (doc (text (codes "=")) (doc target (doc value no_docs)))
+
+-- `left + right`
+abbrev pub sum : ℕ → Doc → Doc → Doc
+sum n left right = made kind.BinaryExpression n (doc (text (codes "+")) (doc left (doc right no_docs)))
+
+-- `left || right`
+abbrev pub alternative : ℕ → Doc → Doc → Doc
+alternative n left right = made kind.LogicalExpression n (doc (text (codes "||")) (doc left (doc right no_docs)))
+
+-- `{}`
+abbrev pub empty_object : ℕ → Doc
+empty_object n = made kind.ObjectExpression n (doc (list no_docs) no_docs)
+
+-- `e;`
+abbrev pub statement : ℕ → Doc → Doc
+statement n e = made kind.ExpressionStatement n (doc e no_docs)
+
+-- `return e;`
+abbrev pub returned : ℕ → Doc → Doc
+returned n e = made kind.ReturnStatement n (doc e no_docs)

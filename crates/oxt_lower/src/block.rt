@@ -1,0 +1,170 @@
+//! The block of an enum, and what stands in its place.
+ghost use Rattle.std.specs.Prelude.{◌≡◌, ◌+◌, ◌<◌, IfOk, IfSome, OnOk, Some, length};
+ghost use Rattle.oxt_lower.specs.Block.{enum_assignment, enum_block, enum_declaration, enum_statement, keyword};
+ghost use Rattle.oxt_lower.specs.Context.{but_table_of};
+ghost use Rattle.oxt_lower.specs.Facts.{block_of, block_view, home_of, lowered, members_of, taken_count};
+ghost use Rattle.oxt_lower.specs.Members.{views};
+ghost use Rattle.oxt_stores.specs.Frame.{declarator};
+ghost use Rattle.oxt_table.specs.Words.{text_of};
+ghost use Rattle.oxt_tree.specs.Names.{name_bytes};
+ghost use Rattle.oxt_tree.specs.View.{node_doc};
+
+use crate::facts::{BlockFacts, home_of};
+use crate::function::block_call;
+use crate::members::{Taken, members_in, take_members};
+use crate::nodes::{assignment, binding, make, statement};
+use crate::rename::IdentifierReferenceRename;
+use oxt_ctx::context::TraverseCtx;
+use oxt_symbol::flags::ReferenceFlags;
+use oxt_table::kind::Kind;
+use oxt_table::word::Word;
+use oxt_tree::ids::{NodeIds, OutOfMemory};
+use oxt_tree::name::Name;
+use oxt_tree::tree::{Node, Part};
+use std::alloc::Global;
+use std::vec;
+
+/// What stands in the place of the block, which is no longer used.
+pub fn lower_block(
+    block: &mut Node,
+    is_exported: bool,
+    ctx: &mut TraverseCtx,
+) -> Result<Node, OutOfMemory>
+    ensures made { IfOk result (λ made. node_doc made ≡ lowered ctx.old is_exported (node_doc block.old)) }
+    ensures frame { OnOk result (ctx.new ≡ but_table_of ctx.old ctx.new) }
+{
+    let alloc = *block.parts.allocator();
+    let facts = BlockFacts::of(block, is_exported, ctx)?;
+    let taken = members_of(alloc, block, &facts, ctx)?;
+    block_statement(alloc, &facts, taken, ctx)
+}
+
+/// Takes the members of the block.
+fn members_of(
+    alloc: Global,
+    block: &mut Node,
+    facts: &BlockFacts,
+    ctx: &mut TraverseCtx,
+) -> Result<Taken, OutOfMemory>
+    requires { IfSome facts.now.symbol (λ enum. enum.0 < length ctx.old.scoping.symbols) }
+    ensures members { IfOk result (λ taken. views taken.members.items
+        ≡ members_of ctx.old (name_bytes facts.now.name) facts.now.symbol (node_doc block.old)) }
+    ensures used { OnOk result (ctx.new.ids.next
+        ≡ ctx.old.ids.next + taken_count ctx.old facts.now.symbol (node_doc block.old)) }
+    ensures frame { OnOk result (ctx.new ≡ but_table_of ctx.old ctx.new) }
+    ensures symbols_stay { OnOk result
+        (length ctx.new.scoping.symbols ≡ length ctx.old.scoping.symbols) }
+{
+    let mut parts = take_members(block);
+    let mut uses = Vec::new(alloc);
+    let mut ids = ctx.ids;
+    let renames = IdentifierReferenceRename {
+        scoping: &ctx.scoping,
+        scope: home_of(&ctx.scoping, facts.symbol),
+        name: &facts.name,
+    };
+    let members = members_in(alloc, &renames, &mut parts, &mut ids, &mut uses)?;
+    ctx.ids = ids;
+    Ok(Taken { members, uses })
+}
+
+/// What stands in the place of a block with these members.
+fn block_statement(
+    alloc: Global,
+    block: &BlockFacts,
+    taken: Taken,
+    ctx: &mut TraverseCtx,
+) -> Result<Node, OutOfMemory>
+    requires { IfSome block.now.symbol (λ enum. enum.0 < length ctx.old.scoping.symbols) }
+    ensures made { IfOk result (λ made. node_doc made
+        ≡ enum_block ctx.old.ids.next (block_view block.now) (views taken.members.items)) }
+    ensures frame { OnOk result (ctx.new ≡ but_table_of ctx.old ctx.new) }
+{
+    let call = block_call(alloc, block, taken, ctx)?;
+    enum_statement(alloc, block, call, ctx)
+}
+
+/// The statement that gives the enum that value: the first block of an enum declares it.
+fn enum_statement(
+    alloc: Global,
+    block: &BlockFacts,
+    value: Node,
+    ctx: &mut TraverseCtx,
+) -> Result<Node, OutOfMemory>
+    requires { IfSome block.now.symbol (λ enum. enum.0 < length ctx.old.scoping.symbols) }
+    ensures made { IfOk result (λ made. node_doc made
+        ≡ enum_statement ctx.old.ids.next (block_view block.now) (node_doc value)) }
+    ensures frame { OnOk result (ctx.new ≡ but_table_of ctx.old ctx.new) }
+{
+    if block.is_first {
+        enum_declaration(alloc, &block.name, block.is_let, value, &mut ctx.ids)
+    } else {
+        enum_assignment(alloc, block, value, ctx)
+    }
+}
+
+/// `let E = value;`, or the same with `var`.
+fn enum_declaration(
+    alloc: Global,
+    name: &Name,
+    is_let: bool,
+    value: Node,
+    ids: &mut NodeIds,
+) -> Result<Node, OutOfMemory>
+    ensures made { IfOk result (λ made. node_doc made
+        ≡ enum_declaration ids.old.next (name_bytes name.now) is_let (node_doc value)) }
+{
+    let pattern = binding(alloc, name, ids)?;
+    let declared = declarator(alloc, pattern, value, ids)?;
+    let declarators = vec![in alloc; Part::Node(declared)]?;
+    let parts = vec![in alloc;
+        Part::Word(keyword(is_let)),
+        Part::List(declarators),
+        Part::Flag(false),
+    ]?;
+    make(Kind::VariableDeclaration, parts, ids)
+}
+
+/// `let` or `var`.
+fn keyword(is_let: bool) -> Word
+    ensures { text_of result ≡ keyword is_let }
+{
+    if is_let { Word::Let } else { Word::Var }
+}
+
+/// A declarator of that pattern and that value, without a type.
+fn declarator(
+    alloc: Global,
+    pattern: Node,
+    value: Node,
+    ids: &mut NodeIds,
+) -> Result<Node, OutOfMemory>
+    ensures made { IfOk result (λ made. node_doc made
+        ≡ declarator ids.old.next (node_doc pattern) (Some (node_doc value))) }
+    ensures used { OnOk result (ids.new.next ≡ ids.old.next + 1) }
+{
+    let parts = vec![in alloc;
+        Part::Node(pattern),
+        Part::Nothing,
+        Part::Flag(false),
+        Part::Node(value),
+    ]?;
+    make(Kind::VariableDeclarator, parts, ids)
+}
+
+/// `E = value;`.
+fn enum_assignment(
+    alloc: Global,
+    block: &BlockFacts,
+    value: Node,
+    ctx: &mut TraverseCtx,
+) -> Result<Node, OutOfMemory>
+    requires { IfSome block.now.symbol (λ enum. enum.0 < length ctx.old.scoping.symbols) }
+    ensures made { IfOk result (λ made. node_doc made
+        ≡ enum_assignment ctx.old.ids.next (name_bytes block.now.name) (node_doc value)) }
+    ensures frame { OnOk result (ctx.new ≡ but_table_of ctx.old ctx.new) }
+{
+    let target = ctx.create_ident_expr(&block.name, block.symbol, ReferenceFlags::Write)?;
+    let put = assignment(alloc, target, value, &mut ctx.ids)?;
+    statement(alloc, put, &mut ctx.ids)
+}

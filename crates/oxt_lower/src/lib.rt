@@ -1,0 +1,16 @@
+//! Enums lowered to functions that make their objects.
+#![tactic(auto)]
+
+mod block;
+mod constant;
+mod facts;
+mod function;
+mod members;
+mod nodes;
+pub mod pass;
+mod puts;
+pub mod rename;
+pub mod statement;
+mod syntax;
+#[cfg(test)]
+mod tests;

@@ -1,0 +1,262 @@
+//! The statements that put the members of an enum.
+ghost use Rattle.std.specs.Prelude.{◌≡◌, ◌+◌, ◌<◌, IfOk, OnOk, length};
+ghost use Rattle.oxt_lower.specs.Context.{but_table_of};
+ghost use Rattle.oxt_lower.specs.Members.{is_text_value, member_view, value_view, views};
+ghost use Rattle.oxt_lower.specs.Puts.{element, function_statements, member_numbers, member_statement, put_of, return_statement, reverse_put_of, statement_numbers, successor, value_doc, value_numbers, with_last};
+ghost use Rattle.oxt_tree.specs.Names.{name_bytes};
+ghost use Rattle.oxt_tree.specs.View.{docs_in, node_doc, part_doc};
+
+use crate::constant::{constant_literal, is_text};
+use crate::members::{Member, Value};
+use crate::nodes::{
+    assignment, computed, number_literal, returned, statement, string_literal, sum,
+};
+use crate::syntax;
+use oxt_ctx::bound::BindingNodes;
+use oxt_ctx::context::TraverseCtx;
+use oxt_stores::bound::BoundIdentifier;
+use oxt_tree::ids::OutOfMemory;
+use oxt_tree::name::Name;
+use oxt_tree::tree::{Node, Part};
+use std::alloc::Global;
+
+/// The statements of the function of an enum: one for each member, and the one that returns the enum.
+pub fn function_statements(
+    alloc: Global,
+    members: Vec<Member>,
+    parameter: &BoundIdentifier,
+    ctx: &mut TraverseCtx,
+) -> Result<Vec<Part>, OutOfMemory>
+    requires { parameter.now.symbol_id.0 < length ctx.old.scoping.symbols }
+    ensures made { IfOk result (λ made. docs_in made.items
+        ≡ function_statements ctx.old.ids.next (name_bytes parameter.now.name) (views members.items)) }
+    ensures used { OnOk result (ctx.new.ids.next
+        ≡ ctx.old.ids.next + (statement_numbers (views members.items) + 2)) }
+    ensures frame { OnOk result (ctx.new ≡ but_table_of ctx.old ctx.new) }
+    ensures symbols_stay { OnOk result
+        (length ctx.new.scoping.symbols ≡ length ctx.old.scoping.symbols) }
+{
+    let mut statements = Vec::new(alloc);
+    for member in members {
+        push_statement(&mut statements, alloc, member, parameter, ctx)?;
+    }
+    push_return(&mut statements, alloc, parameter, ctx)?;
+    Ok(statements)
+}
+
+/// Puts the statement of the member behind the others.
+fn push_statement(
+    statements: &mut Vec<Part>,
+    alloc: Global,
+    member: Member,
+    parameter: &BoundIdentifier,
+    ctx: &mut TraverseCtx,
+) -> Result<(), OutOfMemory>
+    requires { parameter.now.symbol_id.0 < length ctx.old.scoping.symbols }
+    ensures made { OnOk result (docs_in statements.new.items
+        ≡ with_last (docs_in statements.old.items) (member_statement ctx.old.ids.next (name_bytes parameter.now.name) (member_view member))) }
+    ensures used { OnOk result (ctx.new.ids.next
+        ≡ ctx.old.ids.next + member_numbers (member_view member)) }
+    ensures frame { OnOk result (ctx.new ≡ but_table_of ctx.old ctx.new) }
+    ensures symbols_stay { OnOk result
+        (length ctx.new.scoping.symbols ≡ length ctx.old.scoping.symbols) }
+{
+    let made = member_statement(alloc, member, parameter, ctx)?;
+    push_node(statements, made)
+}
+
+/// Puts the statement that returns the enum behind the others.
+fn push_return(
+    statements: &mut Vec<Part>,
+    alloc: Global,
+    parameter: &BoundIdentifier,
+    ctx: &mut TraverseCtx,
+) -> Result<(), OutOfMemory>
+    requires { parameter.now.symbol_id.0 < length ctx.old.scoping.symbols }
+    ensures made { OnOk result (docs_in statements.new.items
+        ≡ with_last (docs_in statements.old.items) (return_statement ctx.old.ids.next (name_bytes parameter.now.name))) }
+    ensures used { OnOk result (ctx.new.ids.next ≡ ctx.old.ids.next + 2) }
+    ensures frame { OnOk result (ctx.new ≡ but_table_of ctx.old ctx.new) }
+    ensures symbols_stay { OnOk result
+        (length ctx.new.scoping.symbols ≡ length ctx.old.scoping.symbols) }
+{
+    let made = return_statement(alloc, parameter, ctx)?;
+    push_node(statements, made)
+}
+
+/// Puts the node behind the others.
+fn push_node(parts: &mut Vec<Part>, node: Node) -> Result<(), OutOfMemory>
+    ensures { OnOk result (docs_in parts.new.items ≡ with_last (docs_in parts.old.items) (node_doc node)) }
+{
+    parts.push(as_part(node))?;
+    Ok(())
+}
+
+/// The node as a part.
+fn as_part(node: Node) -> Part
+    ensures { part_doc result ≡ node_doc node }
+{
+    Part::Node(node)
+}
+
+/// `return E;`.
+fn return_statement(
+    alloc: Global,
+    parameter: &BoundIdentifier,
+    ctx: &mut TraverseCtx,
+) -> Result<Node, OutOfMemory>
+    requires { parameter.now.symbol_id.0 < length ctx.old.scoping.symbols }
+    ensures made { IfOk result (λ made. node_doc made
+        ≡ return_statement ctx.old.ids.next (name_bytes parameter.now.name)) }
+    ensures used { OnOk result (ctx.new.ids.next ≡ ctx.old.ids.next + 2) }
+    ensures frame { OnOk result (ctx.new ≡ but_table_of ctx.old ctx.new) }
+    ensures symbols_stay { OnOk result
+        (length ctx.new.scoping.symbols ≡ length ctx.old.scoping.symbols) }
+{
+    let object = parameter.create_read_expression(ctx)?;
+    returned(alloc, object, &mut ctx.ids)
+}
+
+/// The statement that puts the member: by its name, and by its value where that is no text.
+fn member_statement(
+    alloc: Global,
+    member: Member,
+    parameter: &BoundIdentifier,
+    ctx: &mut TraverseCtx,
+) -> Result<Node, OutOfMemory>
+    requires { parameter.now.symbol_id.0 < length ctx.old.scoping.symbols }
+    ensures made { IfOk result (λ made. node_doc made
+        ≡ member_statement ctx.old.ids.next (name_bytes parameter.now.name) (member_view member)) }
+    ensures used { OnOk result (ctx.new.ids.next
+        ≡ ctx.old.ids.next + member_numbers (member_view member)) }
+    ensures frame { OnOk result (ctx.new ≡ but_table_of ctx.old ctx.new) }
+    ensures symbols_stay { OnOk result
+        (length ctx.new.scoping.symbols ≡ length ctx.old.scoping.symbols) }
+{
+    let Member { name, value } = member;
+    let is_text = is_text_value(&value);
+    let value = value_node(alloc, value, parameter, ctx)?;
+    let put = put(alloc, &name, value, parameter, ctx)?;
+    let whole = if is_text {
+        put
+    } else {
+        reverse_put(alloc, &name, put, parameter, ctx)?
+    };
+    statement(alloc, whole, &mut ctx.ids)
+}
+
+/// Whether the value is a text: a constant that is one, or what is one by its syntax.
+fn is_text_value(value: &Value) -> bool
+    ensures { result ≡ is_text_value (value_view value.now) }
+{
+    match value {
+        Value::Constant(constant) => is_text(constant),
+        Value::After(_) => false,
+        Value::Written(node) => syntax::is_text(node),
+    }
+}
+
+/// The value.
+fn value_node(
+    alloc: Global,
+    value: Value,
+    parameter: &BoundIdentifier,
+    ctx: &mut TraverseCtx,
+) -> Result<Node, OutOfMemory>
+    requires { parameter.now.symbol_id.0 < length ctx.old.scoping.symbols }
+    ensures made { IfOk result (λ made. node_doc made
+        ≡ value_doc ctx.old.ids.next (name_bytes parameter.now.name) (value_view value)) }
+    ensures used { OnOk result (ctx.new.ids.next
+        ≡ ctx.old.ids.next + value_numbers (value_view value)) }
+    ensures frame { OnOk result (ctx.new ≡ but_table_of ctx.old ctx.new) }
+    ensures symbols_stay { OnOk result
+        (length ctx.new.scoping.symbols ≡ length ctx.old.scoping.symbols) }
+{
+    match value {
+        Value::Constant(constant) => constant_literal(alloc, &constant, &mut ctx.ids),
+        Value::After(last) => successor(alloc, &last, parameter, ctx),
+        Value::Written(node) => Ok(node),
+    }
+}
+
+/// `1 + E["last"]`.
+fn successor(
+    alloc: Global,
+    last: &Name,
+    parameter: &BoundIdentifier,
+    ctx: &mut TraverseCtx,
+) -> Result<Node, OutOfMemory>
+    requires { parameter.now.symbol_id.0 < length ctx.old.scoping.symbols }
+    ensures made { IfOk result (λ made. node_doc made
+        ≡ successor ctx.old.ids.next (name_bytes parameter.now.name) (name_bytes last.now)) }
+    ensures used { OnOk result (ctx.new.ids.next ≡ ctx.old.ids.next + 5) }
+    ensures frame { OnOk result (ctx.new ≡ but_table_of ctx.old ctx.new) }
+    ensures symbols_stay { OnOk result
+        (length ctx.new.scoping.symbols ≡ length ctx.old.scoping.symbols) }
+{
+    let one = number_literal(alloc, 1, &mut ctx.ids)?;
+    let before = element(alloc, last, parameter, ctx)?;
+    sum(alloc, one, before, &mut ctx.ids)
+}
+
+/// `E["x"]`.
+fn element(
+    alloc: Global,
+    name: &Name,
+    parameter: &BoundIdentifier,
+    ctx: &mut TraverseCtx,
+) -> Result<Node, OutOfMemory>
+    requires { parameter.now.symbol_id.0 < length ctx.old.scoping.symbols }
+    ensures made { IfOk result (λ made. node_doc made
+        ≡ element ctx.old.ids.next (name_bytes parameter.now.name) (name_bytes name.now)) }
+    ensures used { OnOk result (ctx.new.ids.next ≡ ctx.old.ids.next + 3) }
+    ensures frame { OnOk result (ctx.new ≡ but_table_of ctx.old ctx.new) }
+    ensures symbols_stay { OnOk result
+        (length ctx.new.scoping.symbols ≡ length ctx.old.scoping.symbols) }
+{
+    let object = parameter.create_read_expression(ctx)?;
+    let key = string_literal(alloc, name, &mut ctx.ids)?;
+    computed(alloc, object, key, &mut ctx.ids)
+}
+
+/// `E["x"] = value`.
+fn put(
+    alloc: Global,
+    name: &Name,
+    value: Node,
+    parameter: &BoundIdentifier,
+    ctx: &mut TraverseCtx,
+) -> Result<Node, OutOfMemory>
+    requires { parameter.now.symbol_id.0 < length ctx.old.scoping.symbols }
+    ensures made { IfOk result (λ made. node_doc made
+        ≡ put_of ctx.old.ids.next (name_bytes parameter.now.name) (name_bytes name.now) (node_doc value)) }
+    ensures used { OnOk result (ctx.new.ids.next ≡ ctx.old.ids.next + 4) }
+    ensures frame { OnOk result (ctx.new ≡ but_table_of ctx.old ctx.new) }
+    ensures symbols_stay { OnOk result
+        (length ctx.new.scoping.symbols ≡ length ctx.old.scoping.symbols) }
+{
+    let target = element(alloc, name, parameter, ctx)?;
+    assignment(alloc, target, value, &mut ctx.ids)
+}
+
+/// `E[put] = "x"`.
+fn reverse_put(
+    alloc: Global,
+    name: &Name,
+    put: Node,
+    parameter: &BoundIdentifier,
+    ctx: &mut TraverseCtx,
+) -> Result<Node, OutOfMemory>
+    requires { parameter.now.symbol_id.0 < length ctx.old.scoping.symbols }
+    ensures made { IfOk result (λ made. node_doc made
+        ≡ reverse_put_of ctx.old.ids.next (name_bytes parameter.now.name) (name_bytes name.now) (node_doc put)) }
+    ensures used { OnOk result (ctx.new.ids.next ≡ ctx.old.ids.next + 4) }
+    ensures frame { OnOk result (ctx.new ≡ but_table_of ctx.old ctx.new) }
+    ensures symbols_stay { OnOk result
+        (length ctx.new.scoping.symbols ≡ length ctx.old.scoping.symbols) }
+{
+    let object = parameter.create_read_expression(ctx)?;
+    let target = computed(alloc, object, put, &mut ctx.ids)?;
+    let text = string_literal(alloc, name, &mut ctx.ids)?;
+    assignment(alloc, target, text, &mut ctx.ids)
+}

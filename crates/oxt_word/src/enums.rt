@@ -1,0 +1,303 @@
+//! The effect word of a block of an enum, of its members and of the bare names of members.
+ghost use Rattle.std.specs.Prelude.{◌≡◌, ◌∷◌, [], ◌++◌, OnOk};
+ghost use Rattle.oxt_facts.specs.Told.{block_view, member_view, value_view};
+ghost use Rattle.oxt_item.specs.Entry.{atom_doc, detailed, entries, lone, spelled};
+ghost use Rattle.oxt_symbol.specs.Constant.{constant_view};
+ghost use Rattle.oxt_tree.specs.Doc.{flag, text};
+ghost use Rattle.oxt_tree.specs.Names.{name_bytes};
+ghost use Rattle.oxt_tree.specs.View.{docs_in};
+ghost use Rattle.oxt_word.specs.Enums.{bare_word, block_binding, enum_word, filling_word, following_word, is_exported, is_var, literal_word, member_word, number_literal, object_of, put_word, read_word, return_word, use_word, value_word};
+ghost use Rattle.oxt_put.specs.Details.{start};
+ghost use Rattle.oxt_word.specs.Word.{each_field};
+
+use crate::way::Way;
+use crate::word::put_field;
+use oxt_facts::facts::Facts;
+use oxt_facts::told::{MemberValue, ToldBlock, ToldMember};
+use oxt_item::item::{Atom, Binding, Item, ItemKind};
+use oxt_put::put::{first_atom, put_detailed, put_lone, put_spelled, put_start};
+use oxt_symbol::constant::ConstantValue;
+use oxt_table::kind::Kind;
+use oxt_tree::ids::OutOfMemory;
+use oxt_tree::name::Name;
+use oxt_tree::tree::Node;
+use std::alloc::Global;
+use std::vec;
+
+/// Whether what is read that way is exported.
+pub fn is_exported(way: Way) -> bool
+    ensures { result ≡ is_exported way }
+{
+    match way {
+        Way::Exported => true,
+        _ => false,
+    }
+}
+
+/// Puts a block of an enum, which is exported or not.
+#[cycle(word)]
+pub(crate) fn put_enum(
+    facts: &Facts,
+    block: &ToldBlock,
+    exported: bool,
+    node: &Node,
+    out: &mut Vec<Item>,
+) -> Result<(), OutOfMemory>
+    ensures { OnOk result (entries out.new.items
+        ≡ entries out.old.items
+        ++ enum_word (block_view block.now) exported (each_field facts.now node.now)) }
+{
+    if block.is_first {
+        put_filling(facts, block, exported, node, out)?;
+        put_lone(facts.memory(), ItemKind::Set, out)?;
+        return put_field(
+            facts,
+            node,
+            "id",
+            Way::Bound(block_binding(block, exported), exported),
+            out,
+        );
+    }
+    put_operation(facts.memory(), Kind::AssignmentExpression, "=", out)?;
+    put_use(facts.memory(), &block.name, out)?;
+    put_filling(facts, block, exported, node, out)?;
+    put_lone(facts.memory(), ItemKind::Close, out)?;
+    put_lone(facts.memory(), ItemKind::Eval, out)
+}
+
+/// What a first block declares the enum's name as.
+fn block_binding(block: &ToldBlock, exported: bool) -> Binding
+    ensures { result ≡ block_binding (block_view block.now) exported }
+{
+    if is_var(block, exported) {
+        Binding::Var
+    } else {
+        Binding::Let
+    }
+}
+
+/// Whether the enum is declared as `var`.
+fn is_var(block: &ToldBlock, exported: bool) -> bool
+    ensures { result ≡ is_var (block_view block.now) exported }
+{
+    block.is_top && !exported
+}
+
+/// Puts the call that fills the enum's object.
+#[cycle(word)]
+fn put_filling(
+    facts: &Facts,
+    block: &ToldBlock,
+    exported: bool,
+    node: &Node,
+    out: &mut Vec<Item>,
+) -> Result<(), OutOfMemory>
+    ensures { OnOk result (entries out.new.items
+        ≡ entries out.old.items
+        ++ filling_word (block_view block.now) exported (each_field facts.now node.now)) }
+{
+    put_object_of(facts.memory(), block, exported, out)?;
+    put_entry_of(facts.memory(), block, out)?;
+    put_field(facts, node, "body", Way::Whole, out)?;
+    put_return(facts.memory(), &block.name, out)?;
+    put_lone(facts.memory(), ItemKind::Out, out)
+}
+
+/// Puts the object that the block fills.
+fn put_object_of(
+    alloc: Global,
+    block: &ToldBlock,
+    exported: bool,
+    out: &mut Vec<Item>,
+) -> Result<(), OutOfMemory>
+    ensures { OnOk result (entries out.new.items
+        ≡ entries out.old.items ++ object_of (block_view block.now) exported) }
+{
+    if block.is_first && !is_var(block, exported) {
+        return put_lone(alloc, ItemKind::New, out);
+    }
+    put_use(alloc, &block.name, out)?;
+    put_lone(alloc, ItemKind::Found, out)
+}
+
+/// Puts the entry into the function that fills it.
+fn put_entry_of(alloc: Global, block: &ToldBlock, out: &mut Vec<Item>) -> Result<(), OutOfMemory>
+    ensures { OnOk result (entries out.new.items ≡ entries out.old.items
+        ++ detailed ItemKind.In (text (name_bytes block.now.name)) (flag block.now.is_pure ∷ [])) }
+{
+    let details = vec![in alloc; Atom::Flag(block.is_pure)]?;
+    put_detailed(ItemKind::In, Atom::Text(block.name.share()?), details, out)
+}
+
+/// Puts the return of the name.
+fn put_return(alloc: Global, name: &Name, out: &mut Vec<Item>) -> Result<(), OutOfMemory>
+    ensures { OnOk result (entries out.new.items
+        ≡ entries out.old.items ++ return_word (name_bytes name.now)) }
+{
+    put_start(Kind::ReturnStatement, Vec::new(alloc), out)?;
+    put_use(alloc, name, out)?;
+    put_lone(alloc, ItemKind::Close, out)
+}
+
+/// Puts the start of an operation.
+fn put_operation(
+    alloc: Global,
+    kind: Kind,
+    operator: &str,
+    out: &mut Vec<Item>,
+) -> Result<(), OutOfMemory>
+    ensures { OnOk result (entries out.new.items
+        ≡ entries out.old.items ++ start kind (text operator.now ∷ [])) }
+{
+    let details = vec![in alloc; Atom::Text(Name::new(alloc, operator)?)]?;
+    put_start(kind, details, out)
+}
+
+/// Puts the use of the name.
+fn put_use(alloc: Global, name: &Name, out: &mut Vec<Item>) -> Result<(), OutOfMemory>
+    ensures { OnOk result (entries out.new.items
+        ≡ entries out.old.items ++ use_word (name_bytes name.now)) }
+{
+    put_spelled(alloc, ItemKind::Name, Atom::Text(name.share()?), out)
+}
+
+/// Puts a member of an enum.
+#[cycle(word)]
+pub(crate) fn put_member(
+    facts: &Facts,
+    member: &ToldMember,
+    node: &Node,
+    out: &mut Vec<Item>,
+) -> Result<(), OutOfMemory>
+    ensures { OnOk result (entries out.new.items
+        ≡ entries out.old.items
+        ++ member_word (member_view member.now) (each_field facts.now node.now)) }
+{
+    if member.is_reversed {
+        put_use(facts.memory(), &member.owner, out)?;
+        put_value_put(facts, member, node, out)?;
+        put_text(facts.memory(), &member.name, out)?;
+        put_lone(facts.memory(), ItemKind::Put, out)?;
+        return put_lone(facts.memory(), ItemKind::Eval, out);
+    }
+    put_value_put(facts, member, node, out)?;
+    put_lone(facts.memory(), ItemKind::Eval, out)
+}
+
+/// Puts the write of a member's value under its name.
+#[cycle(word)]
+fn put_value_put(
+    facts: &Facts,
+    member: &ToldMember,
+    node: &Node,
+    out: &mut Vec<Item>,
+) -> Result<(), OutOfMemory>
+    ensures { OnOk result (entries out.new.items
+        ≡ entries out.old.items ++ put_word (member_view member.now) (each_field facts.now node.now)) }
+{
+    put_use(facts.memory(), &member.owner, out)?;
+    put_text(facts.memory(), &member.name, out)?;
+    put_value(facts, member, node, out)?;
+    put_lone(facts.memory(), ItemKind::Put, out)
+}
+
+/// Puts a text.
+fn put_text(alloc: Global, name: &Name, out: &mut Vec<Item>) -> Result<(), OutOfMemory>
+    ensures { OnOk result (entries out.new.items
+        ≡ entries out.old.items ++ spelled ItemKind.Str (text (name_bytes name.now))) }
+{
+    put_spelled(alloc, ItemKind::Str, Atom::Text(name.share()?), out)
+}
+
+/// Puts the value of a member.
+#[cycle(word)]
+fn put_value(
+    facts: &Facts,
+    member: &ToldMember,
+    node: &Node,
+    out: &mut Vec<Item>,
+) -> Result<(), OutOfMemory>
+    ensures { OnOk result (entries out.new.items ≡ entries out.old.items
+        ++ value_word (name_bytes member.now.owner) (value_view member.now.value) (each_field facts.now node.now)) }
+{
+    match &member.value {
+        MemberValue::Constant(constant) => put_literal(facts.memory(), constant, out),
+        MemberValue::Following(name) => put_following(facts.memory(), &member.owner, name, out),
+        MemberValue::Written => put_field(facts, node, "initializer", Way::Whole, out),
+    }
+}
+
+/// Puts a constant, as a literal.
+fn put_literal(
+    alloc: Global,
+    constant: &ConstantValue,
+    out: &mut Vec<Item>,
+) -> Result<(), OutOfMemory>
+    ensures { OnOk result (entries out.new.items
+        ≡ entries out.old.items ++ literal_word (constant_view constant.now)) }
+{
+    match constant {
+        ConstantValue::Number(number) => put_number_literal(alloc, *number, out),
+        ConstantValue::Text(name) => put_text(alloc, name, out),
+    }
+}
+
+/// Puts a number, as a literal.
+fn put_number_literal(alloc: Global, number: i64, out: &mut Vec<Item>) -> Result<(), OutOfMemory>
+    ensures { OnOk result (entries out.new.items ≡ entries out.old.items ++ number_literal number) }
+{
+    let digits = Atom::Number(number.unsigned_abs());
+    if number < 0 {
+        put_operation(alloc, Kind::UnaryExpression, "-", out)?;
+        put_spelled(alloc, ItemKind::Num, digits, out)?;
+        return put_lone(alloc, ItemKind::Close, out);
+    }
+    put_spelled(alloc, ItemKind::Num, digits, out)
+}
+
+/// Puts one more than the member of that name.
+fn put_following(
+    alloc: Global,
+    owner: &Name,
+    name: &Name,
+    out: &mut Vec<Item>,
+) -> Result<(), OutOfMemory>
+    ensures { OnOk result (entries out.new.items
+        ≡ entries out.old.items ++ following_word (name_bytes owner.now) (name_bytes name.now)) }
+{
+    put_operation(alloc, Kind::BinaryExpression, "+", out)?;
+    put_spelled(alloc, ItemKind::Num, Atom::Number(1), out)?;
+    put_read(alloc, owner, Atom::Text(name.share()?), out)?;
+    put_lone(alloc, ItemKind::Close, out)
+}
+
+/// Puts a read of the member of that name.
+fn put_read(alloc: Global, owner: &Name, name: Atom, out: &mut Vec<Item>) -> Result<(), OutOfMemory>
+    ensures { OnOk result (entries out.new.items
+        ≡ entries out.old.items ++ read_word (name_bytes owner.now) (atom_doc name)) }
+{
+    put_use(alloc, owner, out)?;
+    put_spelled(alloc, ItemKind::Str, name, out)?;
+    put_spelled(alloc, ItemKind::Get, Atom::Flag(false), out)
+}
+
+/// Puts a bare name of a member of the enum of that name.
+pub(crate) fn put_bare(
+    alloc: Global,
+    owner: &Name,
+    way: Way,
+    node: &Node,
+    out: &mut Vec<Item>,
+) -> Result<(), OutOfMemory>
+    ensures { OnOk result (entries out.new.items
+        ≡ entries out.old.items ++ bare_word (name_bytes owner.now) way (docs_in node.now.parts.items)) }
+{
+    match way {
+        Way::KeyText => Ok(()),
+        Way::Keyed => {
+            put_read(alloc, owner, first_atom(node)?, out)?;
+            put_lone(alloc, ItemKind::Key, out)
+        }
+        _ => put_read(alloc, owner, first_atom(node)?, out),
+    }
+}
