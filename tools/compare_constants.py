@@ -2,12 +2,12 @@
 """Compares the constants of enum members, and the blocks of enums, that the program finds with those of an
 independent reading of the same rules.
 
-    tools/compare_constants.py ORACLE MEMBERS FILE..                trees, or fixtures with a tree as `input`
-    tools/compare_constants.py ORACLE MEMBERS --random SEED COUNT   random programs of the generators in ORACLE/tests
-    tools/compare_constants.py ORACLE MEMBERS --enums SEED COUNT    random programs of enums alone
+    tools/compare_constants.py ORACLE CASES FILE..                trees, or fixtures with a tree as `input`
+    tools/compare_constants.py ORACLE CASES --random SEED COUNT   random programs of the generators in ORACLE/tests
+    tools/compare_constants.py ORACLE CASES --enums SEED COUNT    random programs of enums alone
 
-ORACLE is the folder of the reading, a Python package `oxtref` that is no part of this repository. MEMBERS is the built
-program `oxt_members`. What the reading takes for no tree is passed over; what the program alone takes for none is
+ORACLE is the folder of the reading, a Python package `oxtref` that is no part of this repository. CASES is the built
+program `oxt_cases`. What the reading takes for no tree is passed over; what the program alone takes for none is
 counted. Prints a line for each tree that differs, then the counts. The status is 1 if there is a difference, and else 0.
 """
 import json
@@ -21,7 +21,7 @@ class Reading(trees.Reading):
     """The independent reading, of members and of the blocks of enums."""
 
     def lines(self, text):
-        """The lines of the members and of the blocks, as `oxt_members` writes them; None where it is no tree."""
+        """The lines of the members and of the blocks, as `oxt_cases` writes them; None where it is no tree."""
         root = self.root_of(text)
         if root is None:
             return None

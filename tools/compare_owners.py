@@ -1,11 +1,11 @@
 #!/usr/bin/env python3
 """Compares the owners of names that the program finds with those of an independent reading of the same rules.
 
-    tools/compare_owners.py ORACLE OWNERS FILE..                trees, or fixtures with a tree as `input`
-    tools/compare_owners.py ORACLE OWNERS --random SEED COUNT   random programs of the generators in ORACLE/tests
+    tools/compare_owners.py ORACLE CASES FILE..                trees, or fixtures with a tree as `input`
+    tools/compare_owners.py ORACLE CASES --random SEED COUNT   random programs of the generators in ORACLE/tests
 
-ORACLE is the folder of the reading, a Python package `oxtref` that is no part of this repository. OWNERS is the built
-program `oxt_owners`. What the reading takes for no tree is passed over. Prints a line for each tree that differs, then
+ORACLE is the folder of the reading, a Python package `oxtref` that is no part of this repository. CASES is the built
+program `oxt_cases`. What the reading takes for no tree is passed over. Prints a line for each tree that differs, then
 the counts. The status is 1 if there is a difference, and else 0.
 """
 import trees
@@ -16,7 +16,7 @@ class Reading(trees.Reading):
     """The independent reading, of owners."""
 
     def lines(self, text):
-        """The lines of the names of a tree, as `oxt_owners tree` writes them; None where it is no tree."""
+        """The lines of the names of a tree, as `oxt_cases owners` writes them; None where it is no tree."""
         root = self.root_of(text)
         if root is None:
             return None
@@ -35,7 +35,7 @@ def main():
     differences = Differences()
     for name, text, wanted in wanted_of(cases, reading.lines):
         differences.add(trees=1, names=len(wanted))
-        status, found, _ = run(program, "tree", text)
+        status, found, _ = run(program, "owners", text)
         if (status, found) != (0, wanted):
             differences.show_lines(name, status, wanted, found)
     differences.end()

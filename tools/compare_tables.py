@@ -2,11 +2,11 @@
 """Compares the table of scopes, symbols and references that the program makes of a tree with an independent reading of
 the same rules.
 
-    tools/compare_tables.py ORACLE RESOLVED FILE..                trees, or fixtures with a tree as `input`
-    tools/compare_tables.py ORACLE RESOLVED --random SEED COUNT   random programs of the generators in ORACLE/tests
+    tools/compare_tables.py ORACLE CASES FILE..                trees, or fixtures with a tree as `input`
+    tools/compare_tables.py ORACLE CASES --random SEED COUNT   random programs of the generators in ORACLE/tests
 
-ORACLE is the folder of the reading, a Python package `oxtref` that is no part of this repository. RESOLVED is the built
-program `oxt_resolved`. Scopes are compared by the nodes that open them, symbols by scope and spelling. The reading finds
+ORACLE is the folder of the reading, a Python package `oxtref` that is no part of this repository. CASES is the built
+program `oxt_cases`. Scopes are compared by the nodes that open them, symbols by scope and spelling. The reading finds
 scopes, groups, what emits and what a name means; flags are worked out here from its kinds. What it takes for no tree is
 passed over. Prints a line for each tree that differs, then the counts. The status is 1 if there is a difference, and
 else 0.
@@ -131,7 +131,7 @@ class Reading(trees.Reading):
 
 
 def table_of(lines):
-    """The same of the lines that `oxt_resolved tree` prints."""
+    """The same of the lines that `oxt_cases table` prints."""
     nodes, names = {}, {}
     table = {"scope": set(), "symbol": set(), "use": set()}
     uses = []
@@ -168,7 +168,7 @@ def main():
     differences = Differences()
     for name, text, wanted in wanted_of(cases, reading.table):
         differences.add(trees=1, rows=sum(map(len, wanted.values())))
-        status, lines, _ = run(program, "tree", text)
+        status, lines, _ = run(program, "table", text)
         found = table_of(lines) if status == 0 else {}
         if found != wanted:
             want, have = shown(wanted), shown(found)

@@ -1,12 +1,12 @@
 #!/usr/bin/env python3
 """Compares the words that the program reads with those of an independent reading of the same rules.
 
-    tools/compare_words.py ORACLE LINES OXT [--trim] FILE..      trees, or fixtures with a tree as `input`
-    tools/compare_words.py ORACLE LINES OXT --random SEED COUNT  random programs of the generators in ORACLE/tests
-    tools/compare_words.py ORACLE LINES OXT --lowered "FLAGS" ..  what the reading itself lowers trees to
+    tools/compare_words.py ORACLE CASES OXT [--trim] FILE..      trees, or fixtures with a tree as `input`
+    tools/compare_words.py ORACLE CASES OXT --random SEED COUNT  random programs of the generators in ORACLE/tests
+    tools/compare_words.py ORACLE CASES OXT --lowered "FLAGS" ..  what the reading itself lowers trees to
 
-ORACLE is the folder of the reading, a Python package `oxtref` that is no part of this repository. LINES and OXT are
-the built programs `oxt_word_lines` and `oxt`. Each tree that `oxt` lowers is compared twice: its own word, with the
+ORACLE is the folder of the reading, a Python package `oxtref` that is no part of this repository. CASES and OXT are
+the built programs `oxt_cases` and `oxt`. Each tree that `oxt` lowers is compared twice: its own word, with the
 TypeScript in it, and that of what `oxt` writes. Trees with forms that `oxt` does not build are counted by the form
 and passed over; with `--trim` they are compared without these forms. A form that a random program has is left out of
 the following ones, so that soon all are built. With `--lowered` the reading lowers each tree, of any form, under the
@@ -31,7 +31,7 @@ BUILT_ELSEWHERE = {
 
 
 def item_line(item):
-    """The line of an item of the reading, as `oxt_word_lines` writes it."""
+    """The line of an item of the reading, as `oxt_cases` writes it."""
     mark, *rest = item
     if mark == "Open":
         kind, parts = rest
@@ -79,7 +79,7 @@ class Comparison:
     def __init__(self, arguments):
         self.is_lowered = arguments.lowered is not None
         self.reading = Reading(arguments.oracle, (arguments.lowered or "").split())
-        self.lines, self.oxt = arguments.lines, arguments.oxt
+        self.cases, self.oxt = arguments.cases, arguments.oxt
         self.counts = collections.Counter()
         self.forms = collections.Counter()
         self.shown = 0
@@ -115,7 +115,7 @@ class Comparison:
             return None
         self.counts["trees"] += 1
         self.counts["nodes"] += nodes
-        self.word(f"{name} (source)", "tree", source, expected[0])
+        self.word(f"{name} (source)", "word", source, expected[0])
         self.word(f"{name} (output)", "pair", pair_of(source, run.stdout), expected[1])
         return None
 
@@ -137,7 +137,7 @@ class Comparison:
         self.word(f"{name} (lowered)", "pair", pair_of(source, output), expected[1])
 
     def word(self, name, mode, tree, wanted):
-        run = subprocess.run([self.lines, mode], input=tree, capture_output=True)
+        run = subprocess.run([self.cases, mode], input=tree, capture_output=True)
         message = run.stderr.decode().strip()
         if mode == "pair" and message.startswith("Error: invalid JSON"):
             self.counts["too deep for a pair"] += 1
@@ -160,7 +160,7 @@ class Comparison:
 
 def pair_of(source, output):
     """The JSON of a source and its output."""
-    return b'{"source":' + source + b',"output":' + output + b"}"
+    return b'{"tree":' + source + b',"output":' + output + b"}"
 
 
 def tree_of_file(path):
@@ -271,7 +271,7 @@ def compare_random(comparison, seed, count):
 def main():
     parser = argparse.ArgumentParser(description=__doc__.split("\n")[0])
     parser.add_argument("oracle")
-    parser.add_argument("lines")
+    parser.add_argument("cases")
     parser.add_argument("oxt")
     parser.add_argument("files", nargs="*")
     parser.add_argument("--trim", action="store_true", help="leave out of each tree the forms that are not built")

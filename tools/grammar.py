@@ -105,11 +105,6 @@ def word_variant(word):
     return names.get(word, word[:1].upper() + word[1:])
 
 
-def snake(name):
-    text = re.sub(r"(?<=[a-z0-9])([A-Z])", r"_\1", name)
-    return re.sub(r"([A-Z])([A-Z][a-z])", r"\1_\2", text).lower()
-
-
 def holds_of(field, enum):
     argument = "" if field.argument is None else field.argument
     if field.holds == "Narrowed":
@@ -592,11 +587,6 @@ holds, and then its condition. The first wrong value is the one that is named.
 {kinds}"""
 
 
-# the kinds whose fields have accessors
-VIEWED = """Program ExpressionStatement IfStatement ForStatement ForInStatement ForOfStatement WhileStatement
-DoWhileStatement LabeledStatement WithStatement VariableDeclaration VariableDeclarator ParenthesizedExpression
-TSAsExpression TSSatisfiesExpression TSTypeAssertion TSNonNullExpression TSInstantiationExpression""".split()
-
 def roles_by_kind(g):
     """The role of each kind that has one; a category stands for its kinds."""
     found = {}
@@ -638,75 +628,6 @@ role_of k = role.Plain
 """
 
 
-# the reserved words among the names of fields
-RESERVED = "abstract async await const override static type".split()
-
-
-def accessor(name):
-    """The accessor of the field; `id` is the node's own number."""
-    name = {"id": "binding"}.get(name, snake(name))
-    return name + "_" if name in RESERVED else name
-
-
-def view_clause(name, kind):
-    """The clause of an accessor, within 100 columns."""
-    fact = f"part_named (codes \"{name}\") kind.{kind} node.now"
-    line = f"        ensures {{ doc_or_nil result ≡ {fact} }}"
-    return line if len(line) <= 100 else f"        ensures {{ doc_or_nil result\n            ≡ {fact} }}"
-
-
-def view_source(g):
-    modules = ""
-    for kind in VIEWED:
-        functions = "\n".join(f"""    /// The field `{f.name}`.
-    pub fn {accessor(f.name)}(node: &Node) -> Option<&Part>
-{view_clause(f.name, kind)}
-    {{
-        node.at({place})
-    }}
-""" for place, f in enumerate(g.kinds[kind]))
-        modules += f"""
-/// The fields of a node of kind `{kind}`.
-#[tactic(auto, using(crate::proofs::ViewRows::{snake(kind)}))]
-pub mod {snake(kind)} {{
-    use oxt_tree::tree::{{Node, Part}};
-
-{functions}}}
-"""
-    return f"""// {NOTE}
-//! The fields of nodes, by the names that the grammar gives them. Each accessor reads the place
-//! that the field has in nodes of that kind.
-#![tactic(auto)]
-
-ghost use Rattle.std.specs.Prelude.{{◌≡◌, codes}};
-ghost use Rattle.oxt_table.specs.declared.kind.Kind.TheVariants as kind;
-ghost use Rattle.oxt_tree.specs.View.{{doc_or_nil, part_named}};
-
-#[cfg(test)]
-mod tests;
-{modules}"""
-
-
-def view_rows(g):
-    lemmas = ""
-    for kind in VIEWED:
-        names = " ∷ ".join(f"codes \"{f.name}\"" for f in g.kinds[kind])
-        lemmas += f"""
-pub {snake(kind)}_names : names_of kind.{kind} ≡ {names} ∷ []
-unfolding row_of names_of
-{snake(kind)}_names = refl
-
-pub ruleset {snake(kind)} = (named_place, {snake(kind)}_names)
-"""
-    return f"""-- {NOTE}
--- The names of the fields of the kinds that have accessors.
-use Rattle.std.proofs.Common.{{◌≡◌, refl, [], ◌∷◌, codes}}
-use Rattle.oxt_table.specs.Rows.{{row_of}}
-use Rattle.oxt_table.specs.declared.kind.Kind.TheVariants as kind
-use Rattle.oxt_tree.proofs.Places.{{names_of, named_place}}
-{lemmas}"""
-
-
 def write(path, text, check):
     full = os.path.join(ROOT, path)
     old = open(full, encoding="utf-8").read() if os.path.exists(full) else None
@@ -736,8 +657,6 @@ def main():
         table + "specs/Words.antt": words_spec(g),
         table + "specs/Rows.antt": rows_spec(g),
         table + "specs/Categories.antt": categories_spec(g),
-        "crates/oxt_view/src/lib.rt": view_source(g),
-        "crates/oxt_view/proofs/ViewRows.antt": view_rows(g),
         "docs/GRAMMAR.md": grammar_doc(g),
         "crates/oxt_unbuilt/src/unbuilt_kinds.rt": unbuilt_source(g),
         "crates/oxt_unbuilt/specs/UnbuiltKinds.antt": unbuilt_spec(g),

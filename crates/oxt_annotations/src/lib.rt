@@ -6,5 +6,3 @@ pub mod laws;
 mod opening;
 pub mod pass;
 mod statements;
-#[cfg(test)]
-mod tests;

@@ -6,5 +6,3 @@ pub mod first;
 mod places;
 mod sort;
 mod sought;
-#[cfg(test)]
-mod tests;

@@ -2,5 +2,3 @@
 #![tactic(auto)]
 
 pub mod both;
-#[cfg(test)]
-mod tests;

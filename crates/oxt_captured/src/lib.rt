@@ -3,5 +3,3 @@
 
 pub mod captured;
 mod outside;
-#[cfg(test)]
-mod tests;

@@ -4,8 +4,6 @@
 pub mod check_program;
 pub mod diagnose;
 pub mod fault;
-#[cfg(test)]
-mod tests;
 
 pub use check_program::check;
 pub use diagnose::diagnostics_of;

@@ -7,5 +7,3 @@ pub mod leaf;
 pub mod meanings;
 pub mod member;
 pub mod parts;
-#[cfg(test)]
-mod tests;

@@ -7,7 +7,5 @@ pub mod bound;
 pub mod context;
 mod makers;
 pub mod maybe;
-#[cfg(test)]
-mod tests;
 pub mod text;
 pub mod uid;

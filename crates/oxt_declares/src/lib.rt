@@ -8,6 +8,4 @@ pub mod declares;
 pub mod names;
 pub mod role;
 pub mod role_of;
-#[cfg(test)]
-mod tests;
 pub mod types_alone;

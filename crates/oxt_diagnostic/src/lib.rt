@@ -4,5 +4,3 @@
 
 pub mod diagnostic;
 pub mod lines;
-#[cfg(test)]
-mod tests;

@@ -8,7 +8,5 @@ mod misused;
 mod repeated;
 pub mod shadowed;
 mod shadows;
-#[cfg(test)]
-mod tests;
 mod uses;
 pub mod wide;

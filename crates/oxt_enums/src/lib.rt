@@ -10,5 +10,3 @@ pub mod members;
 pub mod names;
 pub mod owners;
 pub mod tables;
-#[cfg(test)]
-mod tests;

@@ -5,6 +5,4 @@
 pub mod facts;
 pub mod inside;
 pub mod privates;
-#[cfg(test)]
-mod tests;
 pub mod told;

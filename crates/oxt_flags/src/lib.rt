@@ -4,8 +4,6 @@
 pub mod flags;
 mod matching;
 pub mod options;
-#[cfg(test)]
-mod tests;
 
 pub use flags::Flag;
 pub use options::options_of;

@@ -6,5 +6,3 @@ pub mod forms;
 pub mod made;
 mod mentions;
 pub mod passing;
-#[cfg(test)]
-mod tests;

@@ -5,5 +5,3 @@ mod emitting;
 pub mod laws;
 mod left;
 pub mod source_owners;
-#[cfg(test)]
-mod tests;

@@ -19,6 +19,3 @@ pub use reading::{PIECE, Source, read_to_limit};
 pub use std_adapters::{ReaderSource, WriterSink};
 pub use sure::{SureSink, SureSource};
 pub use writing::{Sink, write_all};
-
-#[cfg(test)]
-mod tests;

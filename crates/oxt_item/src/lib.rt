@@ -4,5 +4,3 @@
 pub mod compare;
 pub mod item;
 pub mod tags;
-#[cfg(test)]
-mod tests;

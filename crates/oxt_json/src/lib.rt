@@ -9,6 +9,3 @@ mod nodes;
 pub mod read;
 
 pub use read::{ReadFault, read_tree};
-
-#[cfg(test)]
-mod tests;

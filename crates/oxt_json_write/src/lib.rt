@@ -151,6 +151,3 @@ fn put(
     members.insert(String::from_str(alloc, name)?, value)?;
     Ok(())
 }
-
-#[cfg(test)]
-mod tests;

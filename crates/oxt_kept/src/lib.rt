@@ -4,5 +4,3 @@
 pub mod jsx;
 pub mod kept;
 pub mod names;
-#[cfg(test)]
-mod tests;

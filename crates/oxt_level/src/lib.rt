@@ -4,6 +4,4 @@
 pub mod level;
 mod reach;
 mod silent;
-#[cfg(test)]
-mod tests;
 pub mod word;

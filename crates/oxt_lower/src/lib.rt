@@ -12,5 +12,3 @@ mod puts;
 pub mod rename;
 pub mod statement;
 mod syntax;
-#[cfg(test)]
-mod tests;

@@ -4,5 +4,3 @@
 pub mod misplaced;
 mod rules;
 mod seat;
-#[cfg(test)]
-mod tests;

@@ -5,5 +5,3 @@ mod places;
 pub mod retain;
 mod specifiers;
 mod statements;
-#[cfg(test)]
-mod tests;

@@ -4,8 +4,6 @@
 pub mod options;
 pub mod rewrite;
 pub mod state;
-#[cfg(test)]
-mod tests;
 
 pub use options::{DecoratorOptions, Module, TransformOptions, TypeScriptOptions};
 pub use rewrite::{RewriteExtensionsMode, parse_rewrite_import_extensions};

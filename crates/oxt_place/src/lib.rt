@@ -2,5 +2,3 @@
 #![tactic(auto)]
 
 pub mod place;
-#[cfg(test)]
-mod tests;

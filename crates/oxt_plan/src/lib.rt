@@ -3,5 +3,3 @@
 
 pub mod lists;
 pub mod plan;
-#[cfg(test)]
-mod tests;

@@ -4,5 +4,3 @@
 pub mod entry;
 mod places;
 pub mod scoping;
-#[cfg(test)]
-mod tests;

@@ -10,5 +10,3 @@ pub mod law;
 mod make;
 pub mod refused;
 pub mod sparse;
-#[cfg(test)]
-mod tests;

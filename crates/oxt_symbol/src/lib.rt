@@ -7,5 +7,3 @@ pub mod flags;
 pub mod ids;
 pub mod integer;
 pub mod operator;
-#[cfg(test)]
-mod tests;

@@ -5,6 +5,4 @@ pub mod beside;
 pub mod laws;
 mod push;
 pub mod targets;
-#[cfg(test)]
-mod tests;
 mod wrapped;

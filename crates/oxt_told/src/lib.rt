@@ -3,6 +3,4 @@
 
 mod members;
 mod syntax;
-#[cfg(test)]
-mod tests;
 pub mod told;

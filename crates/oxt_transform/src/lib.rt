@@ -18,6 +18,3 @@ pub use oxt_tree::name::Name;
 pub use oxt_typescript::typescript::TypeScript;
 pub use program::{Outcome, run};
 pub use transform::{TransformOptions, TransformerReturn, transform_text};
-
-#[cfg(test)]
-mod tests;

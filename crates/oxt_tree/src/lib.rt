@@ -10,6 +10,4 @@ pub mod name;
 pub mod pointer;
 pub mod syntax;
 pub mod take;
-#[cfg(test)]
-mod tests;
 pub mod tree;

@@ -4,6 +4,4 @@
 pub mod base;
 pub mod names;
 pub mod table;
-#[cfg(test)]
-mod tests;
 pub mod uid;

@@ -3,7 +3,5 @@
 
 pub mod dropped;
 pub mod rows;
-#[cfg(test)]
-mod tests;
 pub mod unbuilt;
 mod unbuilt_kinds;

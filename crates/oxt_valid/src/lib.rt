@@ -6,5 +6,3 @@ pub mod fits;
 pub mod misfit;
 pub mod place;
 pub mod plain;
-#[cfg(test)]
-mod tests;

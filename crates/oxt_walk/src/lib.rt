@@ -5,6 +5,4 @@ mod body;
 mod close;
 mod place;
 mod record;
-#[cfg(test)]
-mod tests;
 pub mod walk;

@@ -6,7 +6,5 @@ mod enums;
 mod gone;
 pub mod rule;
 pub mod rule_of;
-#[cfg(test)]
-mod tests;
 pub mod way;
 pub mod word;

@@ -1,0 +1,121 @@
+//! Items of effect words.
+
+use crate::lines::Lines;
+use crate::stopped::Stopped;
+use oxt_item::compare::first_difference;
+use oxt_item::item::{Atom, Binding, Item, ItemKind};
+use oxt_table::kind::Kind;
+use oxt_table::word::Word;
+use oxt_tree::name::Name;
+use std::alloc::Global;
+
+/// The first differences of words.
+pub fn print_words(alloc: Global, lines: &mut Lines) -> Result<(), Stopped> {
+    differences(alloc, lines)?;
+    word_and_text(alloc, lines)
+}
+
+fn item(alloc: Global, kind: ItemKind, spelling: Atom, detail: Atom) -> Result<Item, Stopped> {
+    let details = vec![in alloc; detail]?;
+    Ok(Item {
+        kind,
+        spelling,
+        details,
+    })
+}
+
+/// `let NAME`.
+fn bind(alloc: Global, name: &str) -> Result<Item, Stopped> {
+    let spelling = Atom::Text(Name::new(alloc, name)?);
+    item(alloc, ItemKind::Bind, spelling, Atom::Binding(Binding::Let))
+}
+
+/// The read of a field that is optional or not.
+fn get(alloc: Global, is_optional: bool) -> Result<Item, Stopped> {
+    item(alloc, ItemKind::Get, Atom::Flag(is_optional), Atom::Nothing)
+}
+
+/// `let NAME`, and the read of a field.
+fn word(alloc: Global, name: &str, is_optional: bool) -> Result<Vec<Item>, Stopped> {
+    let first = bind(alloc, name)?;
+    let second = get(alloc, is_optional)?;
+    Ok(vec![in alloc; first, second]?)
+}
+
+/// The place of the first difference.
+fn place(source: &[Item], output: &[Item]) -> Option<u64> {
+    match first_difference(source, output) {
+        Some(difference) => Some(difference.index as u64),
+        None => None,
+    }
+}
+
+fn differences(alloc: Global, lines: &mut Lines) -> Result<(), Stopped> {
+    let source = word(alloc, "x", false)?;
+    print_differences(alloc, source.as_slice(), lines)?;
+    print_ends(source.as_slice(), lines)
+}
+
+/// The places at which others differ from the word of `let x` and a field that is read.
+fn print_differences(alloc: Global, source: &[Item], lines: &mut Lines) -> Result<(), Stopped> {
+    let found = [
+        place_beside(alloc, source, "x", false)?,
+        place_beside(alloc, source, "y", false)?,
+        place_beside(alloc, source, "x", true)?,
+    ];
+    lines.options(
+        "the first difference of let x, get: from itself, from let y, get, from let x, ?.get",
+        &found,
+    )
+}
+
+/// The place at which the word differs from that one.
+fn place_beside(
+    alloc: Global,
+    source: &[Item],
+    name: &str,
+    is_optional: bool,
+) -> Result<Option<u64>, Stopped> {
+    let output = word(alloc, name, is_optional)?;
+    Ok(place(source, output.as_slice()))
+}
+
+/// The places where one of the words has ended, and what stands there.
+fn print_ends(source: &[Item], lines: &mut Lines) -> Result<(), Stopped> {
+    let short = &source[..source.len().min(1)];
+    lines.options(
+        "from let x alone, of no items",
+        &[place(source, short), place(&[], source)],
+    )?;
+    if let Some(difference) = first_difference(source, short) {
+        lines.texts(
+            "what stands there in the source and in the output",
+            &[kind_name(difference.source), kind_name(difference.output)],
+        )?;
+    }
+    Ok(())
+}
+
+/// The name of the item's kind.
+fn kind_name(item: Option<&Item>) -> &'static str {
+    match item {
+        Some(item) => item.kind.name(),
+        None => "-",
+    }
+}
+
+fn word_and_text(alloc: Global, lines: &mut Lines) -> Result<(), Stopped> {
+    let text = Atom::Text(Name::new(alloc, "js")?);
+    let of_text = item(alloc, ItemKind::Open, Atom::Kind(Kind::Program), text)?;
+    let word = Atom::Word(Word::Js);
+    let of_word = item(alloc, ItemKind::Open, Atom::Kind(Kind::Program), word)?;
+    compared(alloc, of_text, of_word, lines)
+}
+
+/// The first difference of words of one item.
+fn compared(alloc: Global, first: Item, second: Item, lines: &mut Lines) -> Result<(), Stopped> {
+    let first = vec![in alloc; first]?;
+    let second = vec![in alloc; second]?;
+    let found = place(first.as_slice(), second.as_slice());
+    lines.options("the text js beside the word js", &[found])
+}

@@ -1,0 +1,73 @@
+//! A case of a table.
+//!
+//! A case is an object of JSON: a `name`, the `source` text that it stands for, its `tree`, the tree of an
+//! `output` where the table compares two, and `wanted`, a list with a value for each line that is wanted: a
+//! text, or what a line has as JSON.
+
+use crate::trees::Trees;
+use anyhow::{Context, Result};
+use serde_json::Value;
+use std::alloc::{AllocError, Global};
+
+/// A case, and the lines that are wanted of it.
+#[derive(Drop)]
+pub struct Case<'a> {
+    /// What the case shows.
+    pub name: &'a str,
+    /// The row of the table, which has the trees.
+    row: &'a Value,
+    /// The lines.
+    pub wanted: String,
+}
+
+impl<'a> Case<'a> {
+    /// The case that a row of the table describes.
+    ///
+    /// # Errors
+    ///
+    /// One that names what the row lacks; or want of memory.
+    pub fn from_value(alloc: Global, row: &'a Value) -> Result<Case<'a>> {
+        let name = row.get("name").and_then(Value::as_str);
+        let name = name.context("a case has no name")?;
+        let wanted = row.get("wanted").and_then(Value::as_array);
+        let wanted = wanted.context("a case has no lines")?;
+        Ok(Case {
+            name,
+            row,
+            wanted: joined(alloc, wanted.as_slice())?,
+        })
+    }
+
+    /// The trees of the case.
+    ///
+    /// # Errors
+    ///
+    /// One that says that a tree is none; or want of memory.
+    pub fn trees(&self, alloc: Global) -> Result<Trees> {
+        Trees::from_value(alloc, self.row)
+    }
+}
+
+/// The values, a line each.
+fn joined(alloc: Global, values: &[Value]) -> Result<String, AllocError> {
+    let mut lines = String::new(alloc);
+    for value in values {
+        push_line(alloc, value, &mut lines)?;
+    }
+    Ok(lines)
+}
+
+/// Puts the line of a value: a text as it is, and another value as JSON.
+fn push_line(alloc: Global, value: &Value, lines: &mut String) -> Result<(), AllocError> {
+    match value.as_str() {
+        Some(text) => lines.push_str(text)?,
+        None => push_json(alloc, value, lines)?,
+    }
+    lines.push('\n')
+}
+
+/// Puts the JSON of a value.
+pub fn push_json(alloc: Global, value: &Value, lines: &mut String) -> Result<(), AllocError> {
+    let text = value.to_string(alloc)?;
+    lines.push_str(text.as_str())
+}

@@ -1,0 +1,39 @@
+//! The first words at the level of statements.
+
+use oxt_level::level::{FoundWord, first_level_word, first_level_word_in};
+use oxt_tree::ids::OutOfMemory;
+use oxt_tree::tree::{Node, Part};
+use std::alloc::Global;
+
+/// A line for each statement of the program, and one for all of them: the first word at their level and the
+/// number of its node, or `-`.
+///
+/// # Errors
+///
+/// Fails only where memory runs out.
+pub fn lines_of(alloc: Global, program: &Node) -> Result<String, OutOfMemory> {
+    let statements = program.list("body");
+    let mut lines = String::new(alloc);
+    for statement in statements {
+        push_found(word_of(statement), &mut lines)?;
+    }
+    push_found(first_level_word_in(statements), &mut lines)?;
+    Ok(lines)
+}
+
+/// The first word of a statement.
+fn word_of(statement: &Part) -> Option<FoundWord> {
+    match statement.as_node() {
+        Some(node) => first_level_word(node),
+        None => None,
+    }
+}
+
+/// Puts the line of a word.
+fn push_found(found: Option<FoundWord>, lines: &mut String) -> Result<(), OutOfMemory> {
+    match found {
+        Some(FoundWord { word, node }) => writeln!(lines, "{} {}", word.as_str(), node.0)?,
+        None => lines.push_str("-\n")?,
+    }
+    Ok(())
+}

@@ -1,0 +1,54 @@
+//! The program of cases: trees, and what the crates find in them.
+//!
+//! Without an argument it runs each case of the tables in the files `*.json`, prints a line for each, and the
+//! count of all. With the name of a table as its argument it reads a tree from standard input, and prints the
+//! lines of that table for it; for `pair` and `differences` an object with a `tree` and an `output`.
+//!
+//! A word of a tree is written an item a line: a JSON array without spaces, of the name of the item's kind, what
+//! the item is spelled, and its further texts and flags, in the order of the grammar. What is absent is `null`.
+//! The program `let x = 1` has the lines
+//!
+//! ```text
+//! ["Num",1]
+//! ["Set",null]
+//! ["Bind","x","let",false]
+//! ```
+//!
+//! Two trees do the same where the lines of their words are the same. Where no word can be shown, standard error
+//! gets one line that says why, as `Error: shape /body`, and the status is 1.
+#![tactic(auto)]
+
+mod blocks;
+mod case;
+mod constants;
+mod differences;
+mod enums;
+mod fault;
+mod faults;
+mod items;
+mod levels;
+mod lowered;
+mod names;
+mod nodes;
+mod run;
+mod scopes;
+mod show;
+mod shown;
+mod table;
+mod tally;
+mod told;
+mod trees;
+mod words;
+
+use crate::run::run_tables;
+use crate::show::show;
+use anyhow::Result;
+use std::env;
+
+fn main(rt: HostRuntime) -> Result<()> {
+    let mut words = env::args(&rt)?.skip(1);
+    match words.next() {
+        None => run_tables(&rt),
+        Some(word) => show(&rt, word.as_str()),
+    }
+}

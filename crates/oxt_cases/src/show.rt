@@ -1,0 +1,58 @@
+//! The lines of one table for what stands on standard input.
+
+use crate::shown::{LIMIT, show_word};
+use crate::table::Table;
+use crate::trees::Trees;
+use anyhow::{Result, bail};
+use oxt_io::{ReaderSource, WriterSink, read_to_limit};
+use serde_json::Value;
+
+/// Prints the lines of the table of that name.
+///
+/// # Errors
+///
+/// One that says that there is no such table, or that the input is none for it; or want of memory.
+pub fn show(rt: &HostRuntime, word: &str) -> Result<()> {
+    match Table::named(word) {
+        Some(Table::Word) => show_source(rt),
+        Some(table) => show_lines(rt, table),
+        None => bail!("there is no table of that name"),
+    }
+}
+
+/// Writes the word of the tree on standard input.
+fn show_source(rt: &HostRuntime) -> Result<()> {
+    let mut source = ReaderSource::new(rt.stdin());
+    let mut out = WriterSink::new(rt.stdout());
+    show_word(rt.alloc(), &mut source, &mut out)?;
+    Ok(())
+}
+
+/// Prints the lines of another table.
+fn show_lines(rt: &HostRuntime, table: Table) -> Result<()> {
+    let mut trees = trees_on_input(rt, table)?;
+    let text = table.lines(rt.alloc(), &mut trees)?;
+    let text = text.as_str();
+    print!(rt; "{text}")?;
+    Ok(())
+}
+
+/// The trees on standard input: a tree alone, or an object with a `tree` and an `output`.
+fn trees_on_input(rt: &HostRuntime, table: Table) -> Result<Trees> {
+    let bytes = bytes_on_input(rt)?;
+    if table.compares_two() {
+        let pair = Value::from_slice(rt.alloc(), bytes.as_slice())?;
+        Trees::from_value(rt.alloc(), &pair)
+    } else {
+        Trees::from_bytes(rt.alloc(), bytes.as_slice())
+    }
+}
+
+/// The bytes on standard input.
+fn bytes_on_input(rt: &HostRuntime) -> Result<Vec<u8>> {
+    let mut source = ReaderSource::new(rt.stdin());
+    match read_to_limit(rt.alloc(), &mut source, LIMIT) {
+        Ok(bytes) => Ok(bytes),
+        Err(_) => bail!("the input is not read"),
+    }
+}

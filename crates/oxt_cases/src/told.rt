@@ -1,0 +1,108 @@
+//! What is told of enums.
+use crate::constants::push_value;
+use oxt_blocks::first::first_blocks;
+use oxt_facts::told::{MemberValue, Told, ToldBlock, ToldMember, ToldNodes};
+use oxt_plan::lists::PlanLists;
+use oxt_plan::plan::Plan;
+use oxt_resolve::resolve::resolve;
+use oxt_scoping::scoping::Scoping;
+use oxt_told::told::told_of_source;
+use oxt_tree::ids::{NodeId, OutOfMemory};
+use oxt_tree::tree::{Node, Program};
+use std::alloc::Global;
+
+/// What is told of the nodes of the program.
+///
+/// # Errors
+///
+/// Fails only where memory runs out.
+pub fn told_nodes(alloc: Global, program: &Node) -> Result<ToldNodes, OutOfMemory> {
+    let scoping = resolve(alloc, program)?;
+    let plan = plan_of(alloc, program, &scoping)?;
+    told_of_source(alloc, program, &scoping, &plan)
+}
+
+/// The plan by which the first blocks of the program are first.
+///
+/// # Errors
+///
+/// Fails only where memory runs out.
+pub fn plan_of(alloc: Global, program: &Node, scoping: &Scoping) -> Result<Plan, OutOfMemory> {
+    let first = first_blocks(alloc, program, scoping)?;
+    let lists = PlanLists {
+        first,
+        ..PlanLists::empty(alloc)
+    };
+    Plan::new(alloc, lists)
+}
+
+/// A line for each node of which something is told: its number and `block`, `member` or `bare`, the name of the
+/// enum, and of a block whether it is first, the program's own and pure, of a member its name, its value and
+/// whether it has a name by its value.
+///
+/// # Errors
+///
+/// Fails only where memory runs out.
+pub fn lines_of(alloc: Global, program: &Program) -> Result<String, OutOfMemory> {
+    let told = told_nodes(alloc, &program.root)?;
+    lines_from(alloc, program.ids.next, &told)
+}
+
+/// The lines of the nodes whose numbers are below that one.
+fn lines_from(alloc: Global, next: u64, told: &ToldNodes) -> Result<String, OutOfMemory> {
+    let mut lines = String::new(alloc);
+    for number in 1..next {
+        push_told(alloc, number, told.of(NodeId(number)), &mut lines)?;
+    }
+    Ok(lines)
+}
+
+/// Puts the line of a node, if something is told of it.
+fn push_told(
+    alloc: Global,
+    number: u64,
+    told: Option<&Told>,
+    lines: &mut String,
+) -> Result<(), OutOfMemory> {
+    match told {
+        Some(Told::Block(block)) => push_block(number, block, lines),
+        Some(Told::Member(member)) => push_member(alloc, number, member, lines),
+        Some(Told::Bare(owner)) => Ok(writeln!(lines, "{number} bare {}", owner.as_str())?),
+        None => Ok(()),
+    }
+}
+
+/// Puts the line of a block.
+fn push_block(number: u64, block: &ToldBlock, lines: &mut String) -> Result<(), OutOfMemory> {
+    write!(lines, "{number} block {}", block.name.as_str())?;
+    push_if(block.is_first, " first", lines)?;
+    push_if(block.is_top, " top", lines)?;
+    push_if(block.is_pure, " pure", lines)?;
+    Ok(lines.push('\n')?)
+}
+
+/// Puts the line of a member.
+fn push_member(
+    alloc: Global,
+    number: u64,
+    member: &ToldMember,
+    lines: &mut String,
+) -> Result<(), OutOfMemory> {
+    let owner = member.owner.as_str();
+    write!(lines, "{number} member {owner} {} ", member.name.as_str())?;
+    match &member.value {
+        MemberValue::Constant(value) => push_value(alloc, Some(value), lines)?,
+        MemberValue::Following(name) => write!(lines, "after {}", name.as_str())?,
+        MemberValue::Written => lines.push_str("written")?,
+    }
+    push_if(member.is_reversed, " reversed", lines)?;
+    Ok(lines.push('\n')?)
+}
+
+/// Puts a text where something holds.
+pub fn push_if(holds: bool, text: &str, lines: &mut String) -> Result<(), OutOfMemory> {
+    if holds {
+        lines.push_str(text)?;
+    }
+    Ok(())
+}

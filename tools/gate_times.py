@@ -1,0 +1,207 @@
+#!/usr/bin/env python3
+"""Runs the gate from nothing in a fresh clone, and writes what it took into docs/GATE.md.
+
+    tools/gate_times.py           runs `rt ci --anew` over what is committed, then times the functions of the dearest crates
+    tools/gate_times.py FOLDER    times the functions alone, over the libraries that an earlier run left in that clone, and prints them
+
+Nothing else should run on the machine. Seconds are those of one processor, read off the prover's processes twice a second.
+"""
+import collections
+import concurrent.futures
+import os
+import pathlib
+import re
+import subprocess
+import sys
+import tempfile
+import threading
+import time
+
+REPO = pathlib.Path(__file__).resolve().parent.parent
+OUT = REPO / "docs" / "GATE.md"
+TICKS = os.sysconf("SC_CLK_TCK")
+EVERY = 0.5
+# Crates whose proofs take less have no function that is listed.
+CHEAP = 20
+LISTED = 10
+LAST_LINE = re.compile(r"\d+ passed, \d+ failed")
+PROOF, EDITS, PROGRAMS = "proof", "edits", "programs"
+
+
+def fields_of(process):
+    """What the system tells of a process, behind its name."""
+    return (process / "stat").read_text().rpartition(")")[2].split()
+
+
+def seconds_in(fields):
+    """The processor time among these."""
+    return (int(fields[11]) + int(fields[12])) / TICKS
+
+
+def taken_by(number):
+    """The processor time that the process of that number has taken so far."""
+    return seconds_in(fields_of(pathlib.Path("/proc") / str(number)))
+
+
+class Spent:
+    """The processor time of the processes of a run, by crate and by what they do."""
+
+    def __init__(self, runner):
+        self.runner = runner
+        self.by_process = {}
+
+    def look(self):
+        """Notes what each process has taken so far."""
+        for entry in os.scandir("/proc"):
+            if entry.name.isdigit():
+                try:
+                    self.look_at(pathlib.Path(entry.path))
+                except (OSError, IndexError, ValueError):
+                    continue
+
+    def look_at(self, process):
+        words = (process / "cmdline").read_bytes().decode(errors="replace").split("\0")
+        fields = fields_of(process)
+        task = self.task(words, int(fields[3]))
+        if task is not None:
+            self.by_process[process.name, fields[19]] = task, seconds_in(fields)
+
+    def task(self, words, session):
+        """The crate and what is done, if the process belongs to the run; programs are run in sessions of their own."""
+        if f"/rt-run-{self.runner}-" in words[0]:
+            return words[0].rsplit("/", 1)[1].partition(".")[0], PROGRAMS
+        if session != os.getsid(0) or not words[0].endswith("/rattle") or "--crate-name" not in words:
+            return None
+        crate = words[words.index("--crate-name") + 1]
+        if any("/rt-edits-" in word for word in words):
+            return crate, EDITS
+        return crate, PROGRAMS if "--backend" in words else PROOF
+
+    def by_crate(self):
+        seconds = collections.defaultdict(collections.Counter)
+        for (crate, what), taken in self.by_process.values():
+            seconds[crate][what] += taken
+        return seconds
+
+
+def run_gate(clone):
+    """Runs the gate in the clone: its last line, the seconds that it took, and what was spent on what."""
+    begin = time.monotonic()
+    with open(clone / "gate.log", "w", encoding="utf-8") as log:
+        gate = subprocess.Popen(["rt", "ci", "--anew"], cwd=clone, stdout=log, stderr=subprocess.STDOUT)
+        spent = Spent(gate.pid)
+        while gate.poll() is None:
+            spent.look()
+            time.sleep(EVERY)
+    text = (clone / "gate.log").read_text(encoding="utf-8", errors="replace")
+    last = text.rstrip().rpartition("\n")[2]
+    if not LAST_LINE.match(last):
+        sys.exit(f"the gate did not come to its end: {last}")
+    return last, time.monotonic() - begin, spent.by_crate(), text
+
+
+def crates_in(clone):
+    """The crates with the libraries that each stands on."""
+    crates = {}
+    for line in (clone / "crates.txt").read_text().splitlines():
+        name, _, libraries = line.partition("#")[0].partition(":")
+        if name.strip():
+            crates[name.strip()] = libraries.split()
+    return crates
+
+
+def below(crates, name, found):
+    for library in crates[name]:
+        if library in crates and library not in found:
+            below(crates, library, found)
+            found.append(library)
+    return found
+
+
+def words_for(clone, crates, name, kept):
+    """The words that check one crate anew by one process, over the libraries that stand in the clone."""
+    kit = pathlib.Path(subprocess.run(["rt", "doc"], capture_output=True, text=True, check=True).stdout.strip()).parent
+    rlib = {own: clone / "crates" / own / "out" / "rlib" / f"{own}.rlib" for own in crates}
+    root = "src/main.rt" if (clone / "crates" / name / "src" / "main.rt").exists() else "src/lib.rt"
+    words = [kit / "bin" / "rattle", "check", "--crate-name", name, root, "-L", f"dependency={kit}/rlibs"]
+    for library in ["std", *crates[name]]:
+        words += ["--extern", f"{library}={rlib.get(library, f'{kit}/rlibs/{library}.rlib')}"]
+    for library in below(crates, name, []):
+        words += ["-L", f"dependency={rlib[library].parent}"]
+    words += ["--antt-project", f"{kit}/rattle/logic/antt-project.json", "--logic-built", f"{kit}/logic_built"]
+    return [*words, "--links", f"{name}=", "--jobs", "1", "--progress", "--incremental", kept]
+
+
+def function_times(clone, crates, name):
+    """The functions of a crate with the seconds until the prover had ended with each. The first is left out: all that comes
+    before it is counted to it."""
+    with tempfile.TemporaryDirectory(prefix="oxt-times-") as kept:
+        check = subprocess.Popen(words_for(clone, crates, name, kept), cwd=clone / "crates" / name, stdout=subprocess.PIPE,
+                                 stderr=subprocess.STDOUT, text=True, errors="replace")
+        times, last = [], None
+        for line in check.stdout:
+            if told := re.match(r"checked (\S+), \d+ of \d+", line):
+                now = taken_by(check.pid)
+                if last is not None:
+                    times.append((now - last, told[1]))
+                last = now
+        check.wait()
+    return times
+
+
+def slow_functions(clone, names):
+    crates = crates_in(clone)
+    with concurrent.futures.ThreadPoolExecutor(os.cpu_count()) as pool:
+        found = pool.map(lambda name: function_times(clone, crates, name), names)
+        return sorted(((s, function) for times in found for s, function in times if s >= LISTED), reverse=True)
+
+
+def page(last, elapsed, seconds, slow):
+    """The text of docs/GATE.md."""
+    sums = collections.Counter()
+    for counted in seconds.values():
+        sums.update(counted)
+    rows = sorted(seconds.items(), key=lambda item: -sum(item[1].values()))
+    cells = lambda counted: " | ".join(f"{counted[what]:.0f}" for what in (PROOF, EDITS, PROGRAMS))
+    cores, memory = os.cpu_count(), os.sysconf("SC_PAGE_SIZE") * os.sysconf("SC_PHYS_PAGES") // 10**9
+    return "\n".join([
+        "# What the gate costs",
+        "",
+        "Written by `tools/gate_times.py`, which runs `rt ci` from nothing in a fresh clone.",
+        "",
+        f"{elapsed / 60:.0f} minutes on {cores} idle cores and {memory} GB: {last}. Of one processor it would take "
+        f"{sum(sums.values()) / 60:.0f} minutes.",
+        "",
+        "Seconds of one processor, by crate: its proof, its must-fail edits, and building and running a program.",
+        "",
+        "| Crate | Proof | Edits | Programs |",
+        "|---|---|---|---|",
+        *[f"| `{crate}` | {cells(counted)} |" for crate, counted in rows],
+        f"| all | {cells(sums)} |",
+        "",
+        f"Functions that take {LISTED} seconds or more, with as many checks at once as there are cores:",
+        "",
+        "| Function | Seconds |",
+        "|---|---|",
+        *[f"| `{function}` | {s:.0f} |" for s, function in slow],
+        "",
+    ])
+
+
+def main():
+    if sys.argv[1:]:
+        clone = pathlib.Path(sys.argv[1]).resolve()
+        for s, function in slow_functions(clone, list(crates_in(clone))):
+            print(f"{s:6.1f}  {function}")
+        return
+    with tempfile.TemporaryDirectory(prefix="oxt-gate-") as room:
+        clone = pathlib.Path(room) / "oxt"
+        subprocess.run(["git", "clone", "-q", REPO, clone], check=True)
+        last, elapsed, seconds, _log = run_gate(clone)
+        dear = [name for name, counted in seconds.items() if counted[PROOF] > CHEAP]
+        OUT.write_text(page(last, elapsed, seconds, slow_functions(clone, dear)), encoding="utf-8")
+    print(f"{last}, {elapsed:.0f} s; {OUT.relative_to(REPO)} is written")
+
+
+if __name__ == "__main__":
+    main()
