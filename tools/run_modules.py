@@ -1,11 +1,10 @@
 #!/usr/bin/env python3
 """Runs the TypeScript modules of a folder as the program lowers them and as other compilers do, and compares what they do.
 
-    tools/run_modules.py [--node-path PATH] ORACLE OXT FOLDER
+    tools/run_modules.py [--node-path PATH] OXT FOLDER
 
-OXT is the built program `oxt`, and FOLDER holds the modules, as NAME.ts. ORACLE is a folder that is no part of this
-repository, with `ts2tree.js`, which makes a tree of a source, and `tree2js.js`, which prints a plain tree. PATH, or else
-the variable NODE_PATH, names the folder of node's modules that has `typescript` and `@babel/core`. Node is 20.6 or later.
+OXT is the built program `oxt`, and FOLDER holds the modules, as NAME.ts. They are lowered by way of `adapters/node`. PATH, or
+else the variable NODE_PATH, names the folder of node's modules that has `typescript` and `@babel/core`. Node is 20.6 or later.
 
 `oxt`, tsc and Babel each get a folder, where each module is NAME.mjs beside the other files of FOLDER; a module that one
 of them refuses has another's text there, for those that import it. A module imports another as "./NAME.mjs", "./NAME.js"
@@ -26,6 +25,7 @@ import subprocess
 import tempfile
 from pathlib import Path
 
+ADAPTER = Path(__file__).resolve().parent.parent / "adapters/node/bin/oxt-node.js"
 DEFAULT_NODE_PATH = "/usr/share/nodejs"
 MAX_SECONDS = 60
 TSC = """
@@ -67,18 +67,13 @@ def last_line(text):
     return next((line for line in reversed(text.decode(errors="replace").splitlines()) if line.strip()), "")
 
 
-def lower(oracle, program, source, target):
+def lower(program, source, target):
     """Writes the text of the module as the program lowers it, or tells why there is none."""
-    tree = node([oracle / "ts2tree.js", "--no-spans", source])
-    if tree.returncode != 0:
-        return f"unread {last_line(tree.stderr)}"
-    done = subprocess.run([program], input=tree.stdout, capture_output=True, check=False)
+    done = node([ADAPTER, "--oxt", program, source])
     if done.returncode != 0:
-        return f"refused {last_line(done.stderr) or done.returncode}"
-    text = node([oracle / "tree2js.js"], done.stdout)
-    if text.returncode != 0:
-        return f"differs: what comes out cannot be printed, {last_line(text.stderr)}"
-    target.write_bytes(text.stdout)
+        line = last_line(done.stderr)
+        return f"unread {line}" if "syntax error" in line else f"refused {line or done.returncode}"
+    target.write_bytes(done.stdout)
     return None
 
 
@@ -129,7 +124,7 @@ def compare(room, name, sides):
 def main():
     parser = argparse.ArgumentParser(description=__doc__.split("\n", 1)[0])
     parser.add_argument("--node-path", default=os.environ.get("NODE_PATH", DEFAULT_NODE_PATH))
-    for word in ("oracle", "program", "folder"):
+    for word in ("program", "folder"):
         parser.add_argument(word, type=lambda path: Path(path).resolve())
     words = parser.parse_args()
     os.environ["NODE_PATH"] = words.node_path
@@ -140,7 +135,7 @@ def main():
         sides = compile_all(words.folder, names, room)
         answers = {}
         for name in names:
-            answers[name] = lower(words.oracle, words.program, words.folder / f"{name}.ts", room / "oxt" / f"{name}.mjs")
+            answers[name] = lower(words.program, words.folder / f"{name}.ts", room / "oxt" / f"{name}.mjs")
             lend(room, name, sides[name])
         for name in names:
             answer = answers[name] or compare(room, name, sides[name])

@@ -39,7 +39,7 @@ export function createMachine<State extends string, Input extends string>(
       if (!to) return false;
       const from = state;
       state = to!;
-      emitter.emit("step", { from, to, input } satisfies Step<State>);
+      emitter.emit("step", { from, to, input } as Step<State>);
       return true;
     },
     onStep(this: unknown, listener) {

@@ -63,7 +63,7 @@ try {
   order({ a: ["b"], b: ["c"], c: ["a"], d: [] });
 } catch (error: unknown) {
   if (!(error instanceof CycleError)) throw error as Error;
-  console.log(error.name, error.message, "cause" in error, (error satisfies CycleError).names!.length);
+  console.log(error.name, error.message, "cause" in error, (error as CycleError).names!.length);
 }
 const sized: Sized = new Set<string>(["x"]);
 console.log(isSized(sized), sized.size);

@@ -42,5 +42,5 @@ console.log(table<Fruit>(fruits, [
 let widest: string | undefined, count = 0 as number;
 ({ length: count as number, 0: (widest as string | undefined)! } = fruits.map((it) => it.name).sort((a, b) => b.length - a.length));
 console.log(count!, widest!.toUpperCase());
-for ((widest as any) of ["done"] as string[]) console.log(widest satisfies string | undefined);
+for ((widest as any) of ["done"] as string[]) console.log(widest as string | undefined);
 for (var letter in { a: 1, b: 2 } as Record<string, number>) console.log(letter as string);

@@ -6,12 +6,15 @@
 mod both;
 mod context;
 mod diagnostics;
+mod faults;
 mod io;
 mod lines;
 mod names;
 mod nodes;
 mod options;
+mod owners;
 mod passes;
+mod places;
 mod plans;
 mod scoping;
 mod source;
@@ -28,11 +31,14 @@ mod words;
 use crate::both::print_both;
 use crate::context::print_context;
 use crate::diagnostics::print_diagnostics;
+use crate::faults::print_faults;
 use crate::io::print_io;
 use crate::lines::Lines;
 use crate::names::print_names;
 use crate::options::print_options;
+use crate::owners::print_owners;
 use crate::passes::print_passes;
+use crate::places::print_places;
 use crate::plans::print_plans;
 use crate::scoping::print_scoping;
 use crate::stopped::Stopped;
@@ -81,5 +87,8 @@ fn print_all(alloc: Global, table: &Table, lines: &mut Lines) -> std::result::Re
     print_context(alloc, table, lines)?;
     print_passes(alloc, table, lines)?;
     print_both(alloc, table, lines)?;
-    print_transform(alloc, table, lines)
+    print_transform(alloc, table, lines)?;
+    print_owners(alloc, table, lines)?;
+    print_places(alloc, table, lines)?;
+    print_faults(alloc, lines)
 }

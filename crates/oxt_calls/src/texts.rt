@@ -46,32 +46,17 @@ fn print_outcome(
     lines.begin(label)?;
     match read_tree(alloc, bytes) {
         Ok(_) => lines.value("tree")?,
-        Err(fault) => push_fault(&fault, lines)?,
+        Err(fault) => push_fault(alloc, &fault, lines)?,
     }
     lines.end()?;
     Ok(())
 }
 
-/// Adds why the bytes are no tree.
-fn push_fault(fault: &ReadFault, lines: &mut Lines) -> Result<(), Stopped> {
-    match fault {
-        ReadFault::OutOfMemory => lines.value("out of memory")?,
-        ReadFault::Json => lines.value("json")?,
-        ReadFault::Shape { place } => {
-            lines.value("shape")?;
-            lines.value(place_name(place.as_str()))?;
-        }
-    }
+/// Adds the text of why the bytes are no tree.
+fn push_fault(alloc: Global, fault: &ReadFault, lines: &mut Lines) -> Result<(), Stopped> {
+    let text = format!(in alloc; "{fault}")?;
+    lines.value(text.as_str())?;
     Ok(())
-}
-
-/// How a place is named.
-fn place_name(place: &str) -> &str {
-    if place.is_empty() {
-        "of the whole"
-    } else {
-        place
-    }
 }
 
 /// A line with what is read of a text, then so many arrays in one another, then a text.
