@@ -81,12 +81,16 @@ pub fn of_table(alloc: Global, scoping: Scoping) -> TraverseCtx
 
 fn in_one_context(alloc: Global, lines: &mut Lines) -> Result<(), Stopped> {
     let mut ctx = context(alloc)?;
-    nodes_around(alloc, &mut ctx, lines)?;
-    found(alloc, &mut ctx, lines)?;
-    made_names(&mut ctx, lines)?;
-    own_name(alloc, &mut ctx, lines)?;
-    read_back(&mut ctx, lines)?;
-    free_name(&mut ctx, lines)
+    print_in(alloc, &mut ctx, lines)
+}
+
+fn print_in(alloc: Global, ctx: &mut TraverseCtx, lines: &mut Lines) -> Result<(), Stopped> {
+    nodes_around(alloc, ctx, lines)?;
+    found(alloc, ctx, lines)?;
+    made_names(ctx, lines)?;
+    own_name(alloc, ctx, lines)?;
+    read_back(ctx, lines)?;
+    free_name(ctx, lines)
 }
 
 // ---- nodes around
