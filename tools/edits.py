@@ -5,9 +5,12 @@
     tools/edits.py NAME..     those of these crates
 
 An edit is a file as those of `must-fail/`. They are tried in a copy of the crates, where `more-edits/` stands in the place
-of `must-fail/`, by `rt ci NAME..`; so what an earlier run proved of a crate is not proved again. Prints each edit that was
-not refused, is bad, or was not tried, and each crate that is not proved, then the counts. The status is 1 if there is one.
+of `must-fail/`: `rt check` proves a crate and `rt must-fail` tries its edits, with as many crates at once as there are
+processors; what stands below them is proved once. Prints each edit that was not refused, is bad, or was not tried, and each
+crate that is not proved, then the counts. The status is 1 if there is one.
 """
+import concurrent.futures
+import os
 import pathlib
 import re
 import shutil
@@ -16,10 +19,9 @@ import sys
 import tempfile
 
 REPO = pathlib.Path(__file__).resolve().parent.parent
-# What the gate says of an edit: `must-fail CRATE/NAME.edit: WHAT`.
+# What rt says of an edit: `must-fail CRATE/NAME.edit: WHAT`.
 TOLD = re.compile(r"(?:rt: )+must-fail (\S+)\.edit: (.*)")
 REFUSED = "refused, as it must be"
-NOT_PROVED = re.compile(r"rt: (\S+)(?:: its tests are)? NOT PROVED")
 
 
 def crates_with_edits(names):
@@ -39,16 +41,26 @@ def copy_to(top, crates):
         (top / "crates" / name / "more-edits").rename(top / "crates" / name / "must-fail")
 
 
-def tried(top, crates):
-    """What the gate says over the crates of the copy: the edits with what came of each, and the crates that are not proved."""
-    gate = subprocess.run(["rt", "ci", *crates], cwd=top, stdout=subprocess.PIPE, stderr=subprocess.STDOUT, text=True, errors="replace")
-    edits, failed = {}, []
-    for line in gate.stdout.splitlines():
-        if told := TOLD.match(line):
-            edits[told[1]] = told[2]
-        elif lost := NOT_PROVED.match(line):
-            failed.append(lost[1])
-    return edits, failed
+def run(words, folder):
+    """What rt says in that folder, and whether all is well."""
+    ran = subprocess.run(["rt", *words], cwd=folder, stdout=subprocess.PIPE, stderr=subprocess.STDOUT, text=True, errors="replace")
+    return ran.stdout.splitlines(), ran.returncode == 0
+
+
+def tried(top, name):
+    """What came of each edit of the crate, and whether the crate is proved without them."""
+    _, is_proved = run(["check"], top / "crates" / name)
+    lines, _ = run(["must-fail", name], top) if is_proved else ([], False)
+    told = [TOLD.match(line) for line in lines]
+    return {it[1]: it[2] for it in told if it}, is_proved
+
+
+def try_all(top, crates):
+    """What came of each edit of the crates, and the crates that are not proved."""
+    with concurrent.futures.ThreadPoolExecutor(os.cpu_count()) as pool:
+        found = list(pool.map(lambda name: tried(top, name), crates))
+    edits = {edit: what for told, _ in found for edit, what in told.items()}
+    return edits, [name for name, (_, is_proved) in zip(crates, found) if not is_proved]
 
 
 def main():
@@ -60,7 +72,7 @@ def main():
         top = pathlib.Path(room)
         copy_to(top, crates)
         wanted = [f"{name}/{path.stem}" for name in crates for path in sorted((top / "crates" / name / "must-fail").glob("*.edit"))]
-        edits, failed = tried(top, crates)
+        edits, failed = try_all(top, crates)
     lost = [(name, edits.get(name, "not tried")) for name in wanted if not edits.get(name, "").startswith(REFUSED)]
     for name, what in lost:
         print(f"{name}: {what}")

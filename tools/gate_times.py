@@ -1,7 +1,7 @@
 #!/usr/bin/env python3
 """Runs the gate from nothing in a fresh clone, and writes what it took into docs/GATE.md.
 
-    tools/gate_times.py           runs `rt ci --anew` over what is committed, then times the functions of the dearest crates
+    tools/gate_times.py           runs `rt ci` over what is committed, then times the functions of the dearest crates
     tools/gate_times.py FOLDER    times the functions alone, over the libraries that an earlier run left in that clone, and prints them
 
 Nothing else should run on the machine. Seconds are those of one processor, read off the prover's processes twice a second.
@@ -84,11 +84,17 @@ class Spent:
         return seconds
 
 
+def gate_words():
+    """The words that run the gate from nothing: a kit whose gate takes what earlier runs proved is told not to."""
+    told = subprocess.run(["rt", "help"], stdout=subprocess.PIPE, stderr=subprocess.STDOUT, text=True, check=False).stdout
+    return ["rt", "ci", "--anew"] if "--anew" in told else ["rt", "ci"]
+
+
 def run_gate(clone):
     """Runs the gate in the clone: its last line, the seconds that it took, and what was spent on what."""
     begin = time.monotonic()
     with open(clone / "gate.log", "w", encoding="utf-8") as log:
-        gate = subprocess.Popen(["rt", "ci", "--anew"], cwd=clone, stdout=log, stderr=subprocess.STDOUT)
+        gate = subprocess.Popen(gate_words(), cwd=clone, stdout=log, stderr=subprocess.STDOUT)
         spent = Spent(gate.pid)
         while gate.poll() is None:
             spent.look()

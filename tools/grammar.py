@@ -136,7 +136,7 @@ def kind_source(g):
     typescript = "\n".join(f"            Kind::{k} => {'true' if g.is_typescript(k) else 'false'}," for k in g.kinds)
     return f"""// {NOTE}
 ghost use Rattle.std.specs.Prelude.{{◌≡◌}};
-ghost use Rattle.oxt_table.specs.Kinds.{{name_of, is_typescript_kind}};
+ghost use Rattle.oxt_grammar.specs.Kinds.{{name_of, is_typescript_kind}};
 
 /// What a node is: the text of its `type`.
 #[derive(Clone, Copy, Debug, PartialEq, Eq)]
@@ -171,7 +171,7 @@ def context_source(g):
     settings = "\n".join(f"            Kind::{k} => Setting::{g.setting(k)}," for k in g.kinds)
     return f"""// {NOTE}
 ghost use Rattle.std.specs.Prelude.{{◌≡◌}};
-ghost use Rattle.oxt_table.specs.Context.{{condition_of, setting_of}};
+ghost use Rattle.oxt_grammar.specs.Context.{{condition_of, setting_of}};
 
 use crate::kind::Kind;
 
@@ -215,12 +215,12 @@ def context_spec(g):
     conditions = "\n".join(f"condition_of kind.{k} = condition.{g.condition(k)}" for k in g.kinds)
     settings = "\n".join(f"setting_of kind.{k} = setting.{g.setting(k)}" for k in g.kinds)
     return f"""-- {NOTE}
-use Rattle.oxt_table.specs.declared.kind.Kind.{{Kind}}
-use Rattle.oxt_table.specs.declared.kind.Kind.TheVariants as kind
-use Rattle.oxt_table.specs.declared.context.Condition.{{Condition}}
-use Rattle.oxt_table.specs.declared.context.Condition.TheVariants as condition
-use Rattle.oxt_table.specs.declared.context.Setting.{{Setting}}
-use Rattle.oxt_table.specs.declared.context.Setting.TheVariants as setting
+use Rattle.oxt_grammar.specs.declared.kind.Kind.{{Kind}}
+use Rattle.oxt_grammar.specs.declared.kind.Kind.TheVariants as kind
+use Rattle.oxt_grammar.specs.declared.context.Condition.{{Condition}}
+use Rattle.oxt_grammar.specs.declared.context.Condition.TheVariants as condition
+use Rattle.oxt_grammar.specs.declared.context.Setting.{{Setting}}
+use Rattle.oxt_grammar.specs.declared.context.Setting.TheVariants as setting
 
 -- the condition that a node has to meet beside what its fields hold
 abbrev pub condition_of : Kind → Condition
@@ -237,8 +237,8 @@ def kinds_spec(g):
     typescript = "\n".join(f"is_typescript_kind {k} = {'true' if g.is_typescript(k) else 'false'}" for k in g.kinds)
     return f"""-- {NOTE}
 use Rattle.std.specs.Prelude.{{ℕ, List, Bool, true, false, codes}}
-use Rattle.oxt_table.specs.declared.kind.Kind.{{Kind}}
-use Rattle.oxt_table.specs.declared.kind.Kind.TheVariants.{{{", ".join(g.kinds)}}}
+use Rattle.oxt_grammar.specs.declared.kind.Kind.{{Kind}}
+use Rattle.oxt_grammar.specs.declared.kind.Kind.TheVariants.{{{", ".join(g.kinds)}}}
 
 -- the text that a tree's JSON has for a kind
 abbrev pub name_of : Kind → List ℕ
@@ -256,8 +256,8 @@ def category_source(g):
     return f"""// {NOTE}
 ghost use Rattle.std.specs.Prelude.{{◌≡◌, find}};
 ghost use Rattle.std.specs.Str.{{bytes_eq}};
-ghost use Rattle.oxt_table.specs.Kinds.{{name_of}};
-ghost use Rattle.oxt_table.specs.Categories.{{kinds_in}};
+ghost use Rattle.oxt_grammar.specs.Kinds.{{name_of}};
+ghost use Rattle.oxt_grammar.specs.Categories.{{kinds_in}};
 
 use crate::kind::Kind;
 
@@ -295,10 +295,10 @@ def categories_spec(g):
     rows = "\n".join(f"kinds_in category.{c} = {' ∷ '.join('kind.' + k for k in kinds)} ∷ []" for c, kinds in g.categories.items())
     return f"""-- {NOTE}
 use Rattle.std.specs.Prelude.{{List, [], ◌∷◌}}
-use Rattle.oxt_table.specs.declared.kind.Kind.{{Kind}}
-use Rattle.oxt_table.specs.declared.kind.Kind.TheVariants as kind
-use Rattle.oxt_table.specs.declared.category.Category.{{Category}}
-use Rattle.oxt_table.specs.declared.category.Category.TheVariants as category
+use Rattle.oxt_grammar.specs.declared.kind.Kind.{{Kind}}
+use Rattle.oxt_grammar.specs.declared.kind.Kind.TheVariants as kind
+use Rattle.oxt_grammar.specs.declared.category.Category.{{Category}}
+use Rattle.oxt_grammar.specs.declared.category.Category.TheVariants as category
 
 -- the kinds of a category, in the order of the grammar
 unfoldable pub kinds_in : Category → List Kind
@@ -314,7 +314,7 @@ def word_source(g):
     return f"""// {NOTE}
 ghost use Rattle.std.specs.Prelude.{{◌≡◌, find}};
 ghost use Rattle.std.specs.Str.{{bytes_eq}};
-ghost use Rattle.oxt_table.specs.Words.{{text_of, words_in}};
+ghost use Rattle.oxt_grammar.specs.Words.{{text_of, words_in}};
 
 /// A word that a field may hold.
 #[derive(Clone, Copy, Debug, PartialEq, Eq)]
@@ -365,10 +365,10 @@ def words_spec(g):
         f"words_in words.{n} = {' ∷ '.join('word.' + word_variant(w) for w in words)} ∷ []" for n, words in g.words.items())
     return f"""-- {NOTE}
 use Rattle.std.specs.Prelude.{{ℕ, List, [], ◌∷◌, codes}}
-use Rattle.oxt_table.specs.declared.word.Word.{{Word}}
-use Rattle.oxt_table.specs.declared.word.Word.TheVariants as word
-use Rattle.oxt_table.specs.declared.word.Words.{{Words}}
-use Rattle.oxt_table.specs.declared.word.Words.TheVariants as words
+use Rattle.oxt_grammar.specs.declared.word.Word.{{Word}}
+use Rattle.oxt_grammar.specs.declared.word.Word.TheVariants as word
+use Rattle.oxt_grammar.specs.declared.word.Words.{{Words}}
+use Rattle.oxt_grammar.specs.declared.word.Words.TheVariants as words
 
 -- the text that a tree's JSON has for a word
 abbrev pub text_of : Word → List ℕ
@@ -391,8 +391,8 @@ def row_source(g):
         arms += f"            {kind} {{\n{rows}            }}\n" if fields else f"            {kind} {{}}\n"
     return f"""// {NOTE}
 ghost use Rattle.std.specs.Prelude.{{◌≡◌, map}};
-ghost use Rattle.oxt_table.specs.Field.{{row_view}};
-ghost use Rattle.oxt_table.specs.Rows.{{row_of}};
+ghost use Rattle.oxt_grammar.specs.Field.{{row_view}};
+ghost use Rattle.oxt_grammar.specs.Rows.{{row_of}};
 
 use crate::category::Category;
 use crate::holds::{{Holds, Presence, Row}};
@@ -431,13 +431,13 @@ def rows_spec(g):
         lines += f"row_of kind.{kind} =\n    {rows} ∷ []\n" if fields else f"row_of kind.{kind} = []\n"
     return f"""-- {NOTE}
 use Rattle.std.specs.Prelude.{{List, [], ◌∷◌, codes}}
-use Rattle.oxt_table.specs.Field.{{Field, field}}
-use Rattle.oxt_table.specs.declared.kind.Kind.{{Kind}}
-use Rattle.oxt_table.specs.declared.kind.Kind.TheVariants as kind
-use Rattle.oxt_table.specs.declared.category.Category.TheVariants as Category
-use Rattle.oxt_table.specs.declared.word.Words.TheVariants as Words
-use Rattle.oxt_table.specs.declared.holds.Holds.TheVariants as Holds
-use Rattle.oxt_table.specs.declared.holds.Presence.TheVariants as Presence
+use Rattle.oxt_grammar.specs.Field.{{Field, field}}
+use Rattle.oxt_grammar.specs.declared.kind.Kind.{{Kind}}
+use Rattle.oxt_grammar.specs.declared.kind.Kind.TheVariants as kind
+use Rattle.oxt_grammar.specs.declared.category.Category.TheVariants as Category
+use Rattle.oxt_grammar.specs.declared.word.Words.TheVariants as Words
+use Rattle.oxt_grammar.specs.declared.holds.Holds.TheVariants as Holds
+use Rattle.oxt_grammar.specs.declared.holds.Presence.TheVariants as Presence
 
 -- the fields of a node of a kind, in the order in which they are checked
 unfoldable pub row_of : Kind → List Field
@@ -458,7 +458,7 @@ def unbuilt_source(g):
 ghost use Rattle.std.specs.Prelude.{{◌≡◌}};
 ghost use Rattle.oxt_unbuilt.specs.UnbuiltKinds.{{is_unbuilt_kind}};
 
-use oxt_table::kind::Kind;
+use oxt_grammar::kind::Kind;
 
 /// Whether no node of the kind is transformed yet.
 pub fn is_unbuilt(kind: Kind) -> bool
@@ -470,8 +470,8 @@ def unbuilt_spec(g):
     kinds = "\n".join(f"is_unbuilt_kind {k} = {'true' if k in g.unbuilt else 'false'}" for k in g.kinds)
     return f"""-- {NOTE}
 use Rattle.std.specs.Prelude.{{Bool, true, false}}
-use Rattle.oxt_table.specs.declared.kind.Kind.{{Kind}}
-use Rattle.oxt_table.specs.declared.kind.Kind.TheVariants.{{{", ".join(g.kinds)}}}
+use Rattle.oxt_grammar.specs.declared.kind.Kind.{{Kind}}
+use Rattle.oxt_grammar.specs.declared.kind.Kind.TheVariants.{{{", ".join(g.kinds)}}}
 
 -- no node of the kind is transformed yet
 abbrev pub is_unbuilt_kind : Kind → Bool
@@ -496,8 +496,8 @@ ghost use Rattle.std.specs.Prelude.{{◌≡◌}};
 ghost use Rattle.oxt_word.specs.RuleOf.{{rule_of}};
 
 use crate::rule::Rule;
-use oxt_item::item::{{Binding, ItemKind}};
-use oxt_table::kind::Kind;
+use oxt_facts::item::{{Binding, ItemKind}};
+use oxt_grammar::kind::Kind;
 
 /// The rule by which nodes of the kind are read.
 #[tactic(auto, unfolding(crate::specs::RuleOf::rule_of))]
@@ -510,10 +510,10 @@ def word_rules_spec(g):
     kinds = "\n".join(f"rule_of {k} = {rule_term(g.rules.get(k, 'Plain'), True)}" for k in g.kinds)
     return f"""-- {NOTE}
 use Rattle.std.specs.Prelude.{{true, false}}
-use Rattle.oxt_table.specs.declared.kind.Kind.{{Kind}}
-use Rattle.oxt_table.specs.declared.kind.Kind.TheVariants.{{{", ".join(g.kinds)}}}
-use Rattle.oxt_item.specs.declared.item.Binding.TheVariants as binding
-use Rattle.oxt_item.specs.declared.item.ItemKind.TheVariants as item
+use Rattle.oxt_grammar.specs.declared.kind.Kind.{{Kind}}
+use Rattle.oxt_grammar.specs.declared.kind.Kind.TheVariants.{{{", ".join(g.kinds)}}}
+use Rattle.oxt_facts.specs.declared.item.Binding.TheVariants as binding
+use Rattle.oxt_facts.specs.declared.item.ItemKind.TheVariants as item
 use Rattle.oxt_word.specs.declared.rule.Rule.{{Rule}}
 use Rattle.oxt_word.specs.declared.rule.Rule.TheVariants as rule
 
@@ -603,7 +603,7 @@ ghost use Rattle.std.specs.Prelude.{{◌≡◌}};
 ghost use Rattle.oxt_declares.specs.RoleOf.{{role_of}};
 
 use crate::role::Role;
-use oxt_table::kind::Kind;
+use oxt_grammar::kind::Kind;
 
 /// The role of a kind.
 #[tactic(auto, unfolding(crate::specs::RoleOf::role_of))]
@@ -612,12 +612,36 @@ pub fn role_of(kind: Kind) -> Role
 {match_on_kind(arms, "Role::Plain")}"""
 
 
+def each_kind_proof(g):
+    cases = "\n".join(f"kind_of-name kind.{kind} = refl" for kind in g.kinds)
+    return f"""-- {NOTE}
+-- The kind of a name.
+use Rattle.std.proofs.Common.{{◌≡◌, refl, ℕ, List, [], ◌∷◌, Option, Some, bytes_eq}}
+use Rattle.std.specs.Prelude.{{find}}
+use Rattle.oxt_grammar.specs.Kinds.{{name_of}}
+use Rattle.oxt_grammar.specs.declared.kind.Kind.{{Kind}}
+use Rattle.oxt_grammar.specs.declared.kind.Kind.TheVariants as kind
+
+-- each kind
+pub kinds : List Kind
+kinds = {" ∷ ".join(f"kind.{kind}" for kind in g.kinds)} ∷ []
+
+-- the kind of that name
+unfoldable pub kind_of : List ℕ → Option Kind
+kind_of name = find (λ k. bytes_eq (name_of k) name) kinds
+
+pub kind_of-name : (k : Kind) → kind_of (name_of k) ≡ Some k
+unfolding kind_of kinds
+{cases}
+"""
+
+
 def roles_spec(g):
     cases = "\n".join(f"role_of kind.{kind} = role.{role}" for kind, role in roles_by_kind(g))
     return f"""-- {NOTE}
 -- What nodes of a kind are to scopes.
-use Rattle.oxt_table.specs.declared.kind.Kind.{{Kind}}
-use Rattle.oxt_table.specs.declared.kind.Kind.TheVariants as kind
+use Rattle.oxt_grammar.specs.declared.kind.Kind.{{Kind}}
+use Rattle.oxt_grammar.specs.declared.kind.Kind.TheVariants as kind
 use Rattle.oxt_declares.specs.declared.role.Role.{{Role}}
 use Rattle.oxt_declares.specs.declared.role.Role.TheVariants as role
 
@@ -645,7 +669,7 @@ def write(path, text, check):
 def main():
     check = "--check" in sys.argv[1:]
     g = Grammar(open(os.path.join(ROOT, "grammar/grammar.txt"), encoding="utf-8").read())
-    table = "crates/oxt_table/"
+    table = "crates/oxt_grammar/"
     files = {
         table + "src/kind.rt": kind_source(g),
         table + "src/category.rt": category_source(g),
@@ -657,6 +681,7 @@ def main():
         table + "specs/Words.antt": words_spec(g),
         table + "specs/Rows.antt": rows_spec(g),
         table + "specs/Categories.antt": categories_spec(g),
+        table + "proofs/EachKind.antt": each_kind_proof(g),
         "docs/GRAMMAR.md": grammar_doc(g),
         "crates/oxt_unbuilt/src/unbuilt_kinds.rt": unbuilt_source(g),
         "crates/oxt_unbuilt/specs/UnbuiltKinds.antt": unbuilt_spec(g),

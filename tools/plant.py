@@ -13,7 +13,7 @@ import tempfile
 from pathlib import Path
 
 TOP = Path(__file__).resolve().parent.parent
-PASS = "crates/oxt_annotations/src/pass.rt"
+PASS = "crates/oxt_erase/src/pass.rt"
 NOTHING = "{}"
 GONE = "Part::List(Vec::new(*node.parts.allocator()))"
 
@@ -54,12 +54,24 @@ def planted(text):
     """The pass with all bugs in it, by number."""
     text = text.replace("pub struct TypeScriptAnnotations;", "pub struct TypeScriptAnnotations { bug: u32 }")
     text = text.replace("        TypeScriptAnnotations\n    }", "        TypeScriptAnnotations { bug: 0 }\n    }")
-    text = text.replace("use oxt_tree::tree::{Node, Part};", "use oxt_table::word::Word;\nuse oxt_tree::tree::{Node, Part};")
-    for number, (hook, wrong) in enumerate(BUGS, 1):
-        begin = re.search(rf"fn enter_{hook}\(.*?\{{\n", text, re.S).end()
-        text = f"{text[:begin]}        if self.bug == {number} {{ {wrong} return Ok(()); }}\n{text[begin:]}"
-    begin = re.search(r"fn enter_program\(.*?\{\n", text, re.S).end()
-    return f"{text[:begin]}        self.bug = node.span.start;\n{text[begin:]}"
+    text = text.replace("use oxt_tree::tree::{Node, Part};", "use oxt_grammar::word::Word;\nuse oxt_tree::tree::{Node, Part};")
+    text = at_begin(text, "at_node", "if hook == Hook::EnterProgram { self.bug = node.span.start; }" + bugs("at_node"))
+    return at_begin(text, "at_statements", bugs("at_statements"))
+
+
+def bugs(method):
+    """The lines of those bugs that stand in the method."""
+    return "".join(
+        f" if self.bug == {number} && hook == Hook::Enter{hook.title().replace('_', '')} {{ {wrong} return Ok(()); }}"
+        for number, (hook, wrong) in enumerate(BUGS, 1)
+        if (hook == "statements") == (method == "at_statements")
+    )
+
+
+def at_begin(text, method, lines):
+    """The lines at the begin of the method."""
+    begin = re.search(rf"fn {method}\(.*?\{{\n", text, re.S).end()
+    return f"{text[:begin]}        {lines}\n{text[begin:]}"
 
 
 def answers(tree):

@@ -1,10 +1,10 @@
 //! The texts and the lines of diagnostics.
 
-use crate::lines::Lines;
-use crate::stopped::Stopped;
-use oxt_diagnostic::diagnostic::{DiagnosticKind, OxcDiagnostic};
-use oxt_diagnostic::lines::append_lines;
+use oxt_lines::lines::Lines;
+use oxt_lines::stopped::Stopped;
+use oxt_tree::diagnostic::{DiagnosticKind, OxcDiagnostic};
 use oxt_tree::ids::Span;
+use oxt_tree::lines::append_lines;
 use std::alloc::Global;
 
 /// All kinds.

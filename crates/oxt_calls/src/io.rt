@@ -1,12 +1,12 @@
 //! Sources and sinks that give and take a few bytes at a time, fail at chosen calls, and end.
 ghost use Rattle.std.specs.Prelude.{◌<◌};
 
-use crate::lines::Lines;
-use crate::stopped::Stopped;
 use oxt_io::{
     Failed, InputFault, MemorySink, MemorySource, OutOfMemory, ReaderSource, Sink, Source,
     SureSink, SureSource, WriterSink, read_to_limit, write_all,
 };
+use oxt_lines::lines::Lines;
+use oxt_lines::stopped::Stopped;
 use std::alloc::{AllocError, Global};
 
 /// A text of forty bytes.

@@ -1,7 +1,7 @@
 //! The options of a run without flags, and what passes know of options.
 
-use crate::lines::Lines;
-use crate::stopped::Stopped;
+use oxt_lines::lines::Lines;
+use oxt_lines::stopped::Stopped;
 use oxt_options::options::{DecoratorOptions, Module, TransformOptions, TypeScriptOptions};
 use oxt_options::rewrite::{RewriteExtensionsMode, parse_rewrite_import_extensions};
 use oxt_options::state::TransformState;

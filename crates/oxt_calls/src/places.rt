@@ -1,10 +1,10 @@
 //! Places of nodes.
 
-use crate::lines::Lines;
-use crate::stopped::Stopped;
-use crate::table::Table;
-use oxt_place::place::place_of;
+use oxt_lines::lines::Lines;
+use oxt_lines::stopped::Stopped;
+use oxt_lines::table::Table;
 use oxt_tree::ids::NodeId;
+use oxt_tree::place::place_of;
 use oxt_tree::tree::Node;
 use std::alloc::Global;
 

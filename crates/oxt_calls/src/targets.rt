@@ -1,10 +1,10 @@
 //! Wrappers around what is assigned to.
 
-use crate::lines::Lines;
-use crate::stopped::Stopped;
-use crate::table::Table;
-use oxt_targets::beside::first_typescript_beside;
-use oxt_targets::targets::WrappedTargets;
+use oxt_check::beside::first_typescript_beside;
+use oxt_check::targets::WrappedTargets;
+use oxt_lines::lines::Lines;
+use oxt_lines::stopped::Stopped;
+use oxt_lines::table::Table;
 use oxt_tree::ids::NodeId;
 use oxt_tree::tree::Node;
 use std::alloc::Global;

@@ -1,12 +1,12 @@
 //! Texts that are read as trees, or are none, and trees that are written.
 
-use crate::lines::Lines;
-use crate::nodes::tree_of;
-use crate::source::outline_of;
-use crate::stopped::Stopped;
-use crate::table::Table;
 use oxt_json::{ReadFault, read_tree};
 use oxt_json_write::write_tree;
+use oxt_lines::lines::Lines;
+use oxt_lines::nodes::tree_of;
+use oxt_lines::source::outline_of;
+use oxt_lines::stopped::Stopped;
+use oxt_lines::table::Table;
 use oxt_tree::tree::Program;
 use std::alloc::Global;
 

@@ -1,11 +1,11 @@
 //! Small trees, and what is read, copied and taken of them.
 
-use crate::lines::Lines;
-use crate::nodes::{child, first_expression, named, node, statement_at};
-use crate::source::outline_of;
-use crate::stopped::Stopped;
-use crate::table::Table;
-use oxt_table::kind::Kind;
+use oxt_grammar::kind::Kind;
+use oxt_lines::lines::Lines;
+use oxt_lines::nodes::{child, first_expression, named, node, statement_at};
+use oxt_lines::source::outline_of;
+use oxt_lines::stopped::Stopped;
+use oxt_lines::table::Table;
 use oxt_tree::ids::NodeIds;
 use oxt_tree::name::Name;
 use oxt_tree::pointer::{below, below_index};

@@ -1,11 +1,11 @@
 //! Items of effect words.
 
-use crate::lines::Lines;
-use crate::stopped::Stopped;
-use oxt_item::compare::first_difference;
-use oxt_item::item::{Atom, Binding, Item, ItemKind};
-use oxt_table::kind::Kind;
-use oxt_table::word::Word;
+use oxt_facts::compare::first_difference;
+use oxt_facts::item::{Atom, Binding, Item, ItemKind};
+use oxt_grammar::kind::Kind;
+use oxt_grammar::word::Word;
+use oxt_lines::lines::Lines;
+use oxt_lines::stopped::Stopped;
 use oxt_tree::name::Name;
 use std::alloc::Global;
 

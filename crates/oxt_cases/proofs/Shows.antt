@@ -4,9 +4,9 @@ use Rattle.std.proofs.lemmas.Bool.{or_from}
 use Rattle.std.proofs.lemmas.List.{map-append}
 use Rattle.oxt_tree.proofs.Lists.{drop_at, drop_end}
 use Rattle.oxt_tree.specs.Doc.{Doc, nil, flag, number, text, list, node}
-use Rattle.oxt_item.specs.Entry.{Entry, atom_doc, entries, entry_of}
-use Rattle.oxt_item.specs.declared.item.Atom.{Atom}
-use Rattle.oxt_item.specs.declared.item.Item.{Item}
+use Rattle.oxt_facts.specs.Entry.{Entry, atom_doc, entries, entry_of}
+use Rattle.oxt_facts.specs.declared.item.Atom.{Atom}
+use Rattle.oxt_facts.specs.declared.item.Item.{Item}
 use Rattle.oxt_cases.specs.Lines.{atom_data, entry_data, line, lines}
 use Rattle.serde_json.specs.Data.{Data}
 use Rattle.serde_json.specs.View.{view, items_of}

@@ -1,8 +1,8 @@
 -- Words as lines.
 use Rattle.std.specs.Prelude.{ℕ, List, [], ◌∷◌, ◌++◌, map}
 use Rattle.oxt_tree.specs.Doc.{Doc, nil, flag, number, text, list, node}
-use Rattle.oxt_item.specs.Entry.{Entry}
-use Rattle.oxt_item.specs.ItemKinds.{item_kind_name}
+use Rattle.oxt_facts.specs.Entry.{Entry}
+use Rattle.oxt_facts.specs.ItemKinds.{item_kind_name}
 use Rattle.serde_json.specs.Data as json
 use Rattle.serde_json.specs.Data.{Data}
 use Rattle.serde_json.specs.View.{items_of}

@@ -1,7 +1,7 @@
 //! Blocks of enums and namespaces.
 
-use oxt_blocks::clash::first_clash;
-use oxt_blocks::first::first_blocks;
+use oxt_enum_checks::clash::first_clash;
+use oxt_enum_checks::first::first_blocks;
 use oxt_resolve::resolve::resolve;
 use oxt_tree::ids::{NodeId, OutOfMemory};
 use oxt_tree::tree::Node;

@@ -1,9 +1,9 @@
 //! Where words differ.
 
 use crate::words::{facts_of_output, item_lines};
+use oxt_facts::compare::{Difference, first_difference};
 use oxt_facts::facts::Facts;
-use oxt_item::compare::{Difference, first_difference};
-use oxt_item::item::Item;
+use oxt_facts::item::Item;
 use oxt_tree::ids::OutOfMemory;
 use oxt_tree::tree::Node;
 use oxt_word::word::word_of;

@@ -1,8 +1,8 @@
 //! What stands in the way of lowering enums.
 
-use oxt_enum_faults::misnamed::first_misnamed;
-use oxt_enum_faults::shadowed::{ShadowedName, first_shadowed};
-use oxt_enum_faults::wide::first_wide;
+use oxt_enum_checks::misnamed::first_misnamed;
+use oxt_enum_checks::shadowed::{ShadowedName, first_shadowed};
+use oxt_enum_checks::wide::first_wide;
 use oxt_resolve::resolve::resolve;
 use oxt_scoping::scoping::Scoping;
 use oxt_tree::ids::{NodeId, OutOfMemory};

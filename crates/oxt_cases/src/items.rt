@@ -1,10 +1,10 @@
 //! Words as lines.
 ghost use Rattle.std.specs.Prelude.{◌≡◌, ◌++◌, IfOk, OnOk, map};
-ghost use Rattle.oxt_item.specs.Entry.{atom_doc, entries, entry_of};
+ghost use Rattle.oxt_facts.specs.Entry.{atom_doc, entries, entry_of};
 ghost use Rattle.oxt_cases.specs.Lines.{atom_data, entry_data, line, lines};
 ghost use Rattle.serde_json.specs.View.{view};
 
-use oxt_item::item::{Atom, Item};
+use oxt_facts::item::{Atom, Item};
 use serde_json::Value;
 use std::alloc::{AllocError, Global};
 use std::vec;

@@ -1,6 +1,6 @@
 //! The first words at the level of statements.
 
-use oxt_level::level::{FoundWord, first_level_word, first_level_word_in};
+use oxt_faults::level::{FoundWord, first_level_word, first_level_word_in};
 use oxt_tree::ids::OutOfMemory;
 use oxt_tree::tree::{Node, Part};
 use std::alloc::Global;

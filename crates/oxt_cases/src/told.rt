@@ -1,9 +1,9 @@
 //! What is told of enums.
 use crate::constants::push_value;
-use oxt_blocks::first::first_blocks;
+use oxt_enum_checks::first::first_blocks;
 use oxt_facts::told::{MemberValue, Told, ToldBlock, ToldMember, ToldNodes};
-use oxt_plan::lists::PlanLists;
-use oxt_plan::plan::Plan;
+use oxt_options::lists::PlanLists;
+use oxt_options::plan::Plan;
 use oxt_resolve::resolve::resolve;
 use oxt_scoping::scoping::Scoping;
 use oxt_told::told::told_of_source;
@@ -68,6 +68,8 @@ fn push_told(
         Some(Told::Block(block)) => push_block(number, block, lines),
         Some(Told::Member(member)) => push_member(alloc, number, member, lines),
         Some(Told::Bare(owner)) => Ok(writeln!(lines, "{number} bare {}", owner.as_str())?),
+        Some(Told::Gone) => Ok(writeln!(lines, "{number} gone")?),
+        Some(Told::Listless) => Ok(writeln!(lines, "{number} listless")?),
         None => Ok(()),
     }
 }

@@ -3,10 +3,10 @@
 use crate::items;
 use crate::told::told_nodes;
 use oxt_facts::facts::Facts;
-use oxt_item::item::Item;
+use oxt_facts::item::Item;
+use oxt_names::uid::UidNames;
 use oxt_tree::ids::OutOfMemory;
 use oxt_tree::tree::Node;
-use oxt_uid::uid::UidNames;
 use oxt_word::word::word_of;
 use std::alloc::Global;
 

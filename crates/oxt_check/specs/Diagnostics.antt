@@ -1,8 +1,8 @@
 -- What the writer of a source is told.
 use Rattle.std.specs.Prelude.{List, length, replicate, None}
-use Rattle.oxt_diagnostic.specs.declared.diagnostic.DiagnosticKind.TheVariants as kind
-use Rattle.oxt_diagnostic.specs.declared.diagnostic.OxcDiagnostic.{OxcDiagnostic}
-use Rattle.oxt_targets.specs.Targets.{targets}
+use Rattle.oxt_tree.specs.declared.diagnostic.DiagnosticKind.TheVariants as kind
+use Rattle.oxt_tree.specs.declared.diagnostic.OxcDiagnostic.{OxcDiagnostic}
+use Rattle.oxt_check.specs.Targets.{targets}
 use Rattle.oxt_tree.specs.Doc.{Doc}
 
 -- syntax of types stays around a target; no place is given

@@ -1,16 +1,16 @@
 -- What a fault says, and the faults of a source tree.
 use Rattle.std.specs.Prelude.{◌≡◌, ℕ, List, [], if◌then◌else◌, Option, None, Some, option_map, unwrap_or, ⊤}
 use Rattle.std.specs.Option.{option_or}
-use Rattle.oxt_captured.specs.Captured.{Capture, captured}
+use Rattle.oxt_faults.specs.Captured.{Capture, captured}
 use Rattle.oxt_check.specs.Refusals.{Refusal, json, shape, unbuilt_form, misplaced_node, captured_name, uncertified, difference_in}
 use Rattle.oxt_check.specs.declared.fault.Fault.{Fault}
 use Rattle.oxt_check.specs.declared.fault.Fault.TheVariants as fault
-use Rattle.oxt_kept.specs.Kept.{kept}
-use Rattle.oxt_misplaced.specs.Misplaced.{misplaced}
-use Rattle.oxt_misplaced.specs.declared.misplaced.MisplacedKind.{MisplacedKind}
+use Rattle.oxt_modules.specs.Kept.{kept}
+use Rattle.oxt_faults.specs.Misplaced.{misplaced}
+use Rattle.oxt_faults.specs.declared.misplaced.MisplacedKind.{MisplacedKind}
 use Rattle.oxt_options.specs.Options.{TransformData}
-use Rattle.oxt_place.specs.Place.{place_of}
-use Rattle.oxt_plan.specs.Facts.{Facts, no_facts}
+use Rattle.oxt_tree.specs.Place.{place_of}
+use Rattle.oxt_options.specs.Facts.{Facts, no_facts}
 use Rattle.oxt_scoping.specs.Scoped.{Scoped}
 use Rattle.oxt_unbuilt.specs.Unbuilt.{unbuilt}
 use Rattle.oxt_tree.specs.Doc.{Doc}

@@ -2,8 +2,8 @@
 use Rattle.std.specs.Prelude.{ℕ, List, ◌++◌, codes, decimal}
 use Rattle.oxt_check.specs.declared.fault.Mismatch.{Mismatch}
 use Rattle.oxt_check.specs.declared.fault.Mismatch.TheVariants.{Shape, Plain, Setting, Item, Owner}
-use Rattle.oxt_misplaced.specs.declared.misplaced.MisplacedKind.{MisplacedKind}
-use Rattle.oxt_misplaced.specs.declared.misplaced.MisplacedKind.TheVariants.{Body, Decorator}
+use Rattle.oxt_faults.specs.declared.misplaced.MisplacedKind.{MisplacedKind}
+use Rattle.oxt_faults.specs.declared.misplaced.MisplacedKind.TheVariants.{Body, Decorator}
 use Rattle.oxt_tree.specs.Names.{name_bytes}
 
 -- how a lowered tree differs from what it has to be: the first place at which it is none of the

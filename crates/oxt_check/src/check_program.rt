@@ -1,24 +1,24 @@
 //! The check of a program, before any pass changes it.
 ghost use Rattle.std.specs.Prelude.{◌≡◌, None, Some, OnOk, IfOk, IfErr};
-ghost use Rattle.oxt_captured.specs.Captured.{capture_view};
+ghost use Rattle.oxt_faults.specs.Captured.{capture_view};
 ghost use Rattle.oxt_check.specs.Faults.{IsFaultOf, IsPlaceFault, captured_refusal, facts_of, first_fault, misplaced_refusal, place_fault, place_text, refusal_in};
-ghost use Rattle.oxt_misplaced.specs.Views.{misplaced_view};
+ghost use Rattle.oxt_faults.specs.Misplaced.{misplaced_view};
 ghost use Rattle.oxt_options.specs.Options.{transform_view};
-ghost use Rattle.oxt_plan.specs.Facts.{Answers};
+ghost use Rattle.oxt_options.specs.Facts.{Answers};
 ghost use Rattle.oxt_tree.specs.Names.{name_bytes};
 ghost use Rattle.oxt_tree.specs.View.{node_doc};
 
 use crate::fault::Fault;
-use oxt_captured::captured::{CapturedName, first_captured};
-use oxt_kept::kept::kept_specifiers;
-use oxt_misplaced::misplaced::{Misplaced, first_misplaced};
+use oxt_faults::captured::{CapturedName, first_captured};
+use oxt_faults::misplaced::{Misplaced, first_misplaced};
+use oxt_modules::kept::kept_specifiers;
 use oxt_options::TransformOptions;
-use oxt_place::place::place_of;
-use oxt_plan::lists::PlanLists;
-use oxt_plan::plan::Plan;
+use oxt_options::lists::PlanLists;
+use oxt_options::plan::Plan;
 use oxt_scoping::scoping::Scoping;
 use oxt_tree::ids::{NodeId, OutOfMemory};
 use oxt_tree::name::Name;
+use oxt_tree::place::place_of;
 use oxt_tree::tree::{Node, Program};
 use oxt_unbuilt::unbuilt::first_unbuilt;
 use std::alloc::Global;

@@ -2,8 +2,8 @@
 ghost use Rattle.std.specs.Prelude.{◌≡◌, IfOk, length, replicate};
 ghost use Rattle.oxt_check.specs.Diagnostics.{wrapper_stays};
 
-use oxt_diagnostic::diagnostic::{DiagnosticKind, OxcDiagnostic};
-use oxt_targets::targets::WrappedTargets;
+use crate::targets::WrappedTargets;
+use oxt_tree::diagnostic::{DiagnosticKind, OxcDiagnostic};
 use oxt_tree::ids::OutOfMemory;
 use std::alloc::Global;
 

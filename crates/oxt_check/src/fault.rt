@@ -4,7 +4,7 @@ ghost use Rattle.oxt_check.specs.Faults.{refusal_in};
 ghost use Rattle.oxt_check.specs.Refusals.{difference_in, kind_text, line_of, uncertified};
 ghost use Rattle.oxt_check.specs.declared.fault.Fault.TheVariants.{OutOfMemory as NoMemory};
 
-pub use oxt_misplaced::misplaced::MisplacedKind;
+pub use oxt_faults::misplaced::MisplacedKind;
 use oxt_tree::ids::OutOfMemory;
 use oxt_tree::name::Name;
 use std::alloc::{AllocError, Global};

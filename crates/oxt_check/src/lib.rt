@@ -1,16 +1,21 @@
-//! Why a tree is refused, and what the check of a program finds out for the passes.
+//! Why a program is refused, what is kept of it, which wrappers stay, and what its writer is told.
 #![tactic(auto)]
 
+pub mod beside;
 pub mod check_program;
 pub mod diagnose;
 pub mod fault;
+pub mod laws;
+mod push;
+pub mod targets;
+mod wrapped;
 
 pub use check_program::check;
 pub use diagnose::diagnostics_of;
 pub use fault::{Fault, Mismatch, MisplacedKind};
+pub use oxt_options::lists::PlanLists;
+pub use oxt_options::plan::Plan;
 pub use oxt_options::{
     DecoratorOptions, Module, RewriteExtensionsMode, TransformOptions, TypeScriptOptions,
     parse_rewrite_import_extensions,
 };
-pub use oxt_plan::lists::PlanLists;
-pub use oxt_plan::plan::Plan;

@@ -1,8 +1,8 @@
 -- The constants of a list, an element at a time.
 use Rattle.std.proofs.Common.{ℕ, ◌+◌, ◌<◌, ◌≤◌, ◌≡◌, refl, sym, ap, ◌∙◌, List, [], ◌∷◌, ◌++◌, length, drop, get_or, Option, Some, None, option_map, append_assoc, append-nil}
 use Rattle.oxt_constant.specs.Evaluated.{Env, constant, each_seen, all_of, in_front, constant_views}
-use Rattle.oxt_symbol.specs.Constant.{Constant, constant_view}
-use Rattle.oxt_symbol.specs.declared.constant.ConstantValue.{ConstantValue}
+use Rattle.oxt_names.specs.Constant.{Constant, constant_view}
+use Rattle.oxt_names.specs.declared.constant.ConstantValue.{ConstantValue}
 use Rattle.oxt_tree.proofs.Lists.{drop_at, drop_end}
 use Rattle.oxt_tree.specs.View.{docs_in, part_doc}
 use Rattle.oxt_tree.specs.declared.tree.Part.{Part}

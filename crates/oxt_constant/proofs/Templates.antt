@@ -2,8 +2,8 @@
 use Rattle.std.proofs.Common.{ℕ, zero, suc, ◌+◌, ◌<◌, ◌≤◌, ◌≡◌, refl, sym, ap, ◌∙◌, List, [], ◌∷◌, ◌++◌, length, drop, get_or, Option, Some, None, option_map, append_assoc, append-nil, arith, codes}
 use Rattle.std.specs.Option.{option_and_then}
 use Rattle.oxt_constant.specs.Evaluated.{constant_views, first_spelling, template_text}
-use Rattle.oxt_symbol.specs.Constant.{constant_view, spelling}
-use Rattle.oxt_symbol.specs.declared.constant.ConstantValue.{ConstantValue}
+use Rattle.oxt_names.specs.Constant.{constant_view, spelling}
+use Rattle.oxt_names.specs.declared.constant.ConstantValue.{ConstantValue}
 use Rattle.oxt_tree.proofs.Lists.{drop_at, drop_end}
 use Rattle.oxt_tree.specs.Fields.{field_of, text_in}
 use Rattle.oxt_tree.specs.View.{docs_in, part_doc}

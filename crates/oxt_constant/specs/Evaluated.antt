@@ -5,16 +5,16 @@ use Rattle.std.specs.Str.{bytes_eq}
 use Rattle.oxt_constant.specs.Forms.{form_of}
 use Rattle.oxt_constant.specs.declared.form.Form.{Form}
 use Rattle.oxt_constant.specs.declared.form.Form.TheVariants as form
-use Rattle.oxt_symbol.specs.Constant.{Constant, constant_view, integer, string, spelling, unary_constant, binary_constant}
-use Rattle.oxt_symbol.specs.Integer.{signed}
-use Rattle.oxt_symbol.specs.Operators.{unary_written, binary_written}
-use Rattle.oxt_table.specs.Field.{Field}
-use Rattle.oxt_table.specs.Places.{same_kind}
-use Rattle.oxt_table.specs.Rows.{row_of}
-use Rattle.oxt_table.specs.declared.kind.Kind.{Kind}
-use Rattle.oxt_table.specs.declared.kind.Kind.TheVariants as kind
+use Rattle.oxt_names.specs.Constant.{Constant, constant_view, integer, string, spelling, unary_constant, binary_constant}
+use Rattle.oxt_names.specs.Integer.{signed}
+use Rattle.oxt_names.specs.Operators.{unary_written, binary_written}
+use Rattle.oxt_grammar.specs.Field.{Field}
+use Rattle.oxt_grammar.specs.Places.{same_kind}
+use Rattle.oxt_grammar.specs.Rows.{row_of}
+use Rattle.oxt_grammar.specs.declared.kind.Kind.{Kind}
+use Rattle.oxt_grammar.specs.declared.kind.Kind.TheVariants as kind
 use Rattle.oxt_tree.specs.Doc.{Doc, nil, flag, number, text, list, node, Docs, no_docs, doc}
-use Rattle.oxt_symbol.specs.declared.constant.ConstantValue.{ConstantValue}
+use Rattle.oxt_names.specs.declared.constant.ConstantValue.{ConstantValue}
 use Rattle.oxt_tree.specs.Fields.{named, field_of, elements, is_kind, is_set, text_in}
 use Rattle.oxt_tree.specs.View.{docs_in}
 use Rattle.oxt_tree.specs.declared.tree.Node.{Node}

@@ -3,8 +3,8 @@ use Rattle.std.specs.Prelude.{Bool, false, ◌&&◌, ◌==◌, if◌then◌else�
 use Rattle.oxt_constant.specs.Evaluated.{Env, constant}
 use Rattle.oxt_constant.specs.declared.member.Before.{Before}
 use Rattle.oxt_constant.specs.declared.member.Before.TheVariants as before
-use Rattle.oxt_symbol.specs.Constant.{Constant, constant_view, integer, string}
-use Rattle.oxt_symbol.specs.Integer.{kept, largest}
+use Rattle.oxt_names.specs.Constant.{Constant, constant_view, integer, string}
+use Rattle.oxt_names.specs.Integer.{kept, largest}
 use Rattle.oxt_tree.specs.Doc.{Doc}
 use Rattle.oxt_tree.specs.Fields.{is_nil}
 

@@ -1,7 +1,7 @@
 //! The constant of an expression.
 ghost use Rattle.std.specs.Prelude.{◌≡◌, IfOk, codes, option_map};
 ghost use Rattle.oxt_constant.specs.Evaluated.{all_of, binary_of, constant, constant_views, each_seen, seen, seen_in, template_of, unary_of};
-ghost use Rattle.oxt_symbol.specs.Constant.{constant_view};
+ghost use Rattle.oxt_names.specs.Constant.{constant_view};
 ghost use Rattle.oxt_tree.specs.Fields.{elements, named, text_in};
 ghost use Rattle.oxt_tree.specs.View.{docs_in, node_doc, part_doc};
 
@@ -9,7 +9,7 @@ use crate::form::{Form, form_of};
 use crate::leaf::{after_dot, bare, in_brackets, number_of, string_of};
 use crate::meanings::Meanings;
 use crate::parts::{binary, template, unary};
-use oxt_symbol::constant::ConstantValue;
+use oxt_names::constant::ConstantValue;
 use oxt_tree::fields::place_of;
 use oxt_tree::ids::OutOfMemory;
 use oxt_tree::tree::{Node, Part};

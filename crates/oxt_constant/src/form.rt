@@ -2,7 +2,7 @@
 ghost use Rattle.std.specs.Prelude.{◌≡◌};
 ghost use Rattle.oxt_constant.specs.Forms.{form_of};
 
-use oxt_table::kind::Kind;
+use oxt_grammar::kind::Kind;
 
 /// How the constant of an expression is found.
 #[derive(Clone, Copy, Debug, PartialEq, Eq)]

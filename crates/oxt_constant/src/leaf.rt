@@ -2,14 +2,14 @@
 ghost use Rattle.std.specs.Prelude.{◌≡◌, IfOk, Some, codes, option_map};
 ghost use Rattle.oxt_constant.specs.Evaluated.{access_of, literal_text, object_member, whole};
 ghost use Rattle.std.specs.Option.{option_and_then};
-ghost use Rattle.oxt_symbol.specs.Constant.{constant_view, string};
+ghost use Rattle.oxt_names.specs.Constant.{constant_view, string};
 ghost use Rattle.oxt_tree.specs.Fields.{field_of, named, text_in};
 ghost use Rattle.oxt_tree.specs.View.{docs_in, node_doc, part_doc};
 
 use crate::meanings::Meanings;
-use oxt_symbol::constant::ConstantValue;
-use oxt_symbol::integer::signed;
-use oxt_table::kind::Kind;
+use oxt_grammar::kind::Kind;
+use oxt_names::constant::ConstantValue;
+use oxt_names::integer::signed;
 use oxt_tree::ids::OutOfMemory;
 use oxt_tree::name::Name;
 use oxt_tree::tree::{Node, Part};

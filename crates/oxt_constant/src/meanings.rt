@@ -1,9 +1,9 @@
 //! What names mean where an initializer stands.
 ghost use Rattle.std.specs.Prelude.{◌≡◌, ℕ, option_map};
 ghost use Rattle.oxt_constant.specs.Evaluated.{Env};
-ghost use Rattle.oxt_symbol.specs.Constant.{constant_view};
+ghost use Rattle.oxt_names.specs.Constant.{constant_view};
 
-use oxt_symbol::constant::ConstantValue;
+use oxt_names::constant::ConstantValue;
 use oxt_tree::ids::NodeId;
 
 /// The constants that names have where an initializer stands: those of the members that stand

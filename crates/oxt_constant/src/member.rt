@@ -1,15 +1,15 @@
 //! The constant of a member of an enum, by its initializer or by the member before it.
 ghost use Rattle.std.specs.Prelude.{◌≡◌, IfOk, codes, option_map};
 ghost use Rattle.oxt_constant.specs.Following.{before_view, following, is_largest, is_wide, member_constant};
-ghost use Rattle.oxt_symbol.specs.Constant.{constant_view};
+ghost use Rattle.oxt_names.specs.Constant.{constant_view};
 ghost use Rattle.oxt_tree.specs.Fields.{named};
 ghost use Rattle.oxt_tree.specs.View.{docs_in};
 
 use crate::evaluate::constant_of;
 use crate::meanings::Meanings;
-use oxt_symbol::constant::ConstantValue;
-use oxt_symbol::integer::{LARGEST, apply_binary};
-use oxt_symbol::operator::BinaryOperator;
+use oxt_names::constant::ConstantValue;
+use oxt_names::integer::{LARGEST, apply_binary};
+use oxt_names::operator::BinaryOperator;
 use oxt_tree::ids::OutOfMemory;
 use oxt_tree::tree::{Node, Part};
 use std::alloc::Global;

@@ -1,13 +1,13 @@
 //! The constants of expressions whose parts have been evaluated.
 ghost use Rattle.std.specs.Prelude.{◌≡◌, ◌++◌, IfOk, OnOk, Some, codes, drop, option_map, string_bytes};
 ghost use Rattle.oxt_constant.specs.Evaluated.{binary_of, constant_views, first_spelling, template_of, template_text, unary_of};
-ghost use Rattle.oxt_symbol.specs.Constant.{constant_view};
+ghost use Rattle.oxt_names.specs.Constant.{constant_view};
 ghost use Rattle.oxt_tree.specs.Fields.{elements, field_of, named, text_in};
 ghost use Rattle.oxt_tree.specs.View.{docs_in, part_doc};
 
 use crate::leaf::text_of;
-use oxt_symbol::constant::ConstantValue;
-use oxt_symbol::operator::{BinaryOperator, UnaryOperator};
+use oxt_names::constant::ConstantValue;
+use oxt_names::operator::{BinaryOperator, UnaryOperator};
 use oxt_tree::ids::OutOfMemory;
 use oxt_tree::name::Name;
 use oxt_tree::tree::{Node, Part};

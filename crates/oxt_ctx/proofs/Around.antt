@@ -2,7 +2,7 @@
 use Rattle.std.proofs.Common.{ℕ, ◌≡◌, ◌<◌, List, [], ◌∷◌, length, Option, None, Some, sym, subst, IfSome}
 use Rattle.std.specs.Option.{option_or}
 use Rattle.oxt_scoping.specs.Scoped.{Each, Scoped}
-use Rattle.oxt_symbol.specs.declared.ids.ScopeId.{ScopeId}
+use Rattle.oxt_names.specs.declared.ids.ScopeId.{ScopeId}
 use Rattle.oxt_ctx.specs.Context.{OpensOneOf, IsScoped, innermost_scope}
 use Rattle.oxt_ctx.specs.declared.ancestor.AncestorRecord.{AncestorRecord}
 

@@ -1,15 +1,15 @@
 -- What the makers of names leave.
 use Rattle.std.specs.Prelude.{ℕ, ◌+◌, List, [], ◌∷◌, ◌++◌, length, true, Option}
-use Rattle.oxt_table.specs.declared.kind.Kind.TheVariants as kind
+use Rattle.oxt_grammar.specs.declared.kind.Kind.TheVariants as kind
 use Rattle.oxt_tree.specs.Doc.{Doc, text, node, no_docs, doc}
 use Rattle.oxt_tree.specs.declared.ids.NodeIds.{NodeIds}
-use Rattle.oxt_symbol.specs.declared.flags.ReferenceFlags.{ReferenceFlags}
-use Rattle.oxt_symbol.specs.declared.flags.SymbolFlags.{SymbolFlags}
-use Rattle.oxt_symbol.specs.declared.ids.ScopeId.{ScopeId}
-use Rattle.oxt_symbol.specs.declared.ids.SymbolId.{SymbolId}
+use Rattle.oxt_names.specs.declared.flags.ReferenceFlags.{ReferenceFlags}
+use Rattle.oxt_names.specs.declared.flags.SymbolFlags.{SymbolFlags}
+use Rattle.oxt_names.specs.declared.ids.ScopeId.{ScopeId}
+use Rattle.oxt_names.specs.declared.ids.SymbolId.{SymbolId}
 use Rattle.oxt_scoping.specs.Scoped.{Scoped, new_symbol, with_reference, with_symbol}
 use Rattle.oxt_stores.specs.Frame.{Frame, binding, declarator, with_var}
-use Rattle.oxt_uid.specs.Made.{made_name}
+use Rattle.oxt_names.specs.Made.{made_name}
 use Rattle.oxt_ctx.specs.Context.{Context}
 
 -- a name that is used

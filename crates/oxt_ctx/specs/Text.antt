@@ -1,12 +1,12 @@
 -- The text from which the name of a variable is made that holds an expression.
 use Rattle.std.specs.Prelude.{ℕ, List, [], ◌∷◌, ◌++◌, Bool, false, ◌&&◌, ◌||◌, ◌==◌, nat_le, if◌then◌else◌, Option, None, Some, codes}
 use Rattle.std.specs.List.{list_all}
-use Rattle.oxt_table.specs.Places.{same_kind}
-use Rattle.oxt_table.specs.declared.kind.Kind.{Kind}
-use Rattle.oxt_table.specs.declared.kind.Kind.TheVariants as kind
+use Rattle.oxt_grammar.specs.Places.{same_kind}
+use Rattle.oxt_grammar.specs.declared.kind.Kind.{Kind}
+use Rattle.oxt_grammar.specs.declared.kind.Kind.TheVariants as kind
 use Rattle.oxt_tree.specs.Doc.{Doc, nil, flag, number, text, list, node, Docs, no_docs, doc}
 use Rattle.oxt_tree.specs.Fields.{field_of, named, text_in}
-use Rattle.oxt_uid.specs.Made.{is_digit}
+use Rattle.oxt_names.specs.Made.{is_digit}
 
 -- the text of what has none of its own
 abbrev pub no_name : List ℕ

@@ -1,7 +1,7 @@
 //! The nodes around the one that is being visited.
 
-use oxt_symbol::ids::ScopeId;
-use oxt_table::kind::Kind;
+use oxt_grammar::kind::Kind;
+use oxt_names::ids::ScopeId;
 use oxt_tree::ids::NodeId;
 use oxt_tree::name::Name;
 

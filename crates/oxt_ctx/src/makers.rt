@@ -5,11 +5,11 @@ ghost use Rattle.oxt_tree.specs.Names.{name_bytes};
 ghost use Rattle.oxt_tree.specs.View.{node_doc};
 ghost use Rattle.oxt_ctx.specs.Made.{after, bound_anew, reference, used_anew};
 
+use oxt_grammar::kind::Kind;
+use oxt_names::flags::{ReferenceFlags, SymbolFlags};
+use oxt_names::ids::{ScopeId, SymbolId};
 use oxt_scoping::scoping::Scoping;
 use oxt_stores::bound::BoundIdentifier;
-use oxt_symbol::flags::{ReferenceFlags, SymbolFlags};
-use oxt_symbol::ids::{ScopeId, SymbolId};
-use oxt_table::kind::Kind;
 use oxt_tree::ids::{NodeId, NodeIds, OutOfMemory, Span};
 use oxt_tree::name::Name;
 use oxt_tree::tree::{Node, Part};

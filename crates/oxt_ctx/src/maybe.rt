@@ -7,9 +7,9 @@ ghost use Rattle.oxt_ctx.specs.Made.{reference, with_use};
 ghost use Rattle.oxt_ctx.specs.Meant.{or_empty, symbol_meant};
 
 use crate::context::TraverseCtx;
+use oxt_names::flags::ReferenceFlags;
+use oxt_names::ids::SymbolId;
 use oxt_scoping::scoping::Scoping;
-use oxt_symbol::flags::ReferenceFlags;
-use oxt_symbol::ids::SymbolId;
 use oxt_tree::ids::{NodeId, OutOfMemory};
 use oxt_tree::name::Name;
 use oxt_tree::tree::{Node, Part};

@@ -3,15 +3,15 @@ ghost use Rattle.std.specs.Prelude.{◌≡◌, ◌+◌, ◌<◌, IfOk, None, OnE
 ghost use Rattle.oxt_stores.specs.Frame.{frames};
 ghost use Rattle.oxt_tree.specs.Names.{name_bytes};
 ghost use Rattle.oxt_tree.specs.View.{node_doc};
-ghost use Rattle.oxt_uid.specs.Made.{is_among};
+ghost use Rattle.oxt_names.specs.Made.{is_among};
 ghost use Rattle.oxt_ctx.specs.Context.{current_scope};
 ghost use Rattle.oxt_ctx.specs.Made.{after, but_declarators_of, but_names_of, made_in, with_declared, with_uid};
 ghost use Rattle.oxt_ctx.specs.Text.{name_text};
 
 use crate::context::TraverseCtx;
 use crate::text::get_var_name_from_node;
+use oxt_names::flags::SymbolFlags;
 use oxt_stores::bound::BoundIdentifier;
-use oxt_symbol::flags::SymbolFlags;
 use oxt_tree::ids::OutOfMemory;
 use oxt_tree::tree::Node;
 

@@ -1,7 +1,7 @@
 -- What each scope declares.
 use Rattle.std.specs.Prelude.{ℕ, List, [], ◌∷◌, ◌++◌, Bool, false, ◌||◌, if◌then◌else◌, Option, None, Some, codes}
-use Rattle.oxt_table.specs.declared.kind.Kind.{Kind}
-use Rattle.oxt_table.specs.declared.kind.Kind.TheVariants as kind
+use Rattle.oxt_grammar.specs.declared.kind.Kind.{Kind}
+use Rattle.oxt_grammar.specs.declared.kind.Kind.TheVariants as kind
 use Rattle.oxt_tree.specs.Bound.{Bound, bound_names}
 use Rattle.oxt_tree.specs.Doc.{Doc, nil, flag, number, text, list, node, Docs, no_docs, doc}
 use Rattle.oxt_tree.specs.Fields.{named, field_of, elements, first, is_set, is_text, is_kind, text_in}

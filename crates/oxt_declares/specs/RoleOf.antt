@@ -1,7 +1,7 @@
 -- Written by tools/grammar.py from grammar/grammar.txt.
 -- What nodes of a kind are to scopes.
-use Rattle.oxt_table.specs.declared.kind.Kind.{Kind}
-use Rattle.oxt_table.specs.declared.kind.Kind.TheVariants as kind
+use Rattle.oxt_grammar.specs.declared.kind.Kind.{Kind}
+use Rattle.oxt_grammar.specs.declared.kind.Kind.TheVariants as kind
 use Rattle.oxt_declares.specs.declared.role.Role.{Role}
 use Rattle.oxt_declares.specs.declared.role.Role.TheVariants as role
 

@@ -1,12 +1,12 @@
 //! The bare names of a pattern.
 ghost use Rattle.std.specs.Prelude.{◌≡◌, ◌++◌, map, IfOk, OnOk, codes};
-ghost use Rattle.oxt_table.specs.Field.{row_view};
+ghost use Rattle.oxt_grammar.specs.Field.{row_view};
 ghost use Rattle.oxt_tree.specs.Bound.{bound_names, bare_name, binds_nothing, names_of_each, names_of_fields};
 ghost use Rattle.oxt_tree.specs.View.{docs_in, field_in, node_doc, part_doc};
 ghost use Rattle.oxt_declares.specs.Bare.{bare_views};
 
-use oxt_table::holds::Row;
-use oxt_table::kind::Kind;
+use oxt_grammar::holds::Row;
+use oxt_grammar::kind::Kind;
 use oxt_tree::ids::{NodeId, OutOfMemory};
 use oxt_tree::tree::{Node, Part};
 

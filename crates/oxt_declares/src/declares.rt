@@ -10,7 +10,7 @@ use crate::declaration::{Declaration, Sort};
 use crate::names::{field_of, field_within, list_of, list_within};
 use crate::role::Role;
 use crate::role_of::role_of;
-use oxt_table::kind::Kind;
+use oxt_grammar::kind::Kind;
 use oxt_tree::ids::{NodeId, OutOfMemory};
 use oxt_tree::tree::{Node, Part};
 use std::alloc::Global;

@@ -4,7 +4,7 @@ ghost use Rattle.std.specs.Prelude.{◌≡◌};
 ghost use Rattle.oxt_declares.specs.RoleOf.{role_of};
 
 use crate::role::Role;
-use oxt_table::kind::Kind;
+use oxt_grammar::kind::Kind;
 
 /// The role of a kind.
 #[tactic(auto, unfolding(crate::specs::RoleOf::role_of))]

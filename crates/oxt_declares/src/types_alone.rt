@@ -1,13 +1,13 @@
 //! Namespaces of types alone.
 ghost use Rattle.std.specs.Prelude.{◌≡◌, codes};
-ghost use Rattle.oxt_table.specs.Field.{row_view};
+ghost use Rattle.oxt_grammar.specs.Field.{row_view};
 ghost use Rattle.oxt_tree.specs.View.{docs_in, node_doc, part_doc};
 ghost use Rattle.oxt_declares.specs.TypesAlone.{all_of_types, each_of_types, export_of_types, is_of_types, may_export, namespace_of_types};
 ghost use Rattle.oxt_tree.specs.Fields.{named};
 
 use crate::role::Role;
 use crate::role_of::role_of;
-use oxt_table::kind::Kind;
+use oxt_grammar::kind::Kind;
 use oxt_tree::fields::place_of;
 use oxt_tree::tree::{Node, Part};
 

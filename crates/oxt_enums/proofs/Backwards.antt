@@ -8,11 +8,11 @@ use Rattle.oxt_enums.specs.Blocks.{Block, block_view, block_views}
 use Rattle.oxt_enums.specs.Constants.{block_in, owner_in}
 use Rattle.oxt_enums.specs.Tables.{at_number}
 use Rattle.oxt_enums.specs.declared.blocks.EnumBlock.{EnumBlock}
-use Rattle.oxt_scope.proofs.Tables.{look_insert}
-use Rattle.oxt_scope.specs.OwnedViews.{owned_view, owned_views}
-use Rattle.oxt_scope.specs.Owners.{Owned}
-use Rattle.oxt_scope.specs.Stack.{number_at}
-use Rattle.oxt_scope.specs.declared.owners.OwnedName.{OwnedName}
+use Rattle.oxt_scopes.proofs.Tables.{look_insert}
+use Rattle.oxt_scopes.specs.OwnedViews.{owned_view, owned_views}
+use Rattle.oxt_scopes.specs.Owners.{Owned}
+use Rattle.oxt_scopes.specs.Stack.{number_at}
+use Rattle.oxt_scopes.specs.declared.owners.OwnedName.{OwnedName}
 use Rattle.oxt_tree.proofs.Lists.{drop_at, drop_end}
 use Rattle.oxt_tree.specs.declared.ids.NodeId.{NodeId}
 

@@ -18,8 +18,8 @@ use Rattle.oxt_enums.specs.declared.homes.Homes.{Homes}
 use Rattle.oxt_enums.specs.declared.members.Member.{Member}
 use Rattle.oxt_enums.specs.declared.owners.Owners.{Owners}
 use Rattle.oxt_enums.specs.declared.tables.Tables.{Tables}
-use Rattle.oxt_scope.specs.Stack.{number_at}
-use Rattle.oxt_symbol.specs.declared.constant.ConstantValue.{ConstantValue}
+use Rattle.oxt_scopes.specs.Stack.{number_at}
+use Rattle.oxt_names.specs.declared.constant.ConstantValue.{ConstantValue}
 
 same_meanings : (o : Owners) (t : Tables) (ks : List Known) → Knows t ks → table_meanings o t ≡ meanings (λ i. owner_at i o) ks
 same_meanings o t ks knows = λ j. record {

@@ -9,7 +9,7 @@ use Rattle.std.specs.Prelude.{◌==◌, if◌then◌else◌, is_some, option_map
 use Rattle.std.specs.Str.{bytes_eq}
 use Rattle.indexmap.specs.IndexMap.{insert_entry}
 use Rattle.oxt_enums.specs.Tables.{Name, Path, at_name, at_number, at_path}
-use Rattle.oxt_scope.proofs.Tables.{look_insert}
+use Rattle.oxt_scopes.proofs.Tables.{look_insert}
 
 module _ {K V W : Type 0} (eq : K → K → Bool) (test : K → Bool) (k : K) (v : V) (f : V → W) where
   -- two keys that pass the test are equal, and what is equal to the key passes it as the key does

@@ -6,7 +6,7 @@ use Rattle.std.specs.Prelude.{◌==◌, if◌then◌else◌, find, option_map}
 use Rattle.oxt_enums.specs.Constants.{Known, first_value, has_number, is_in_body, is_in_enum}
 use Rattle.oxt_enums.specs.Tables.{Knows, in_bodies, in_enums, in_numbers}
 use Rattle.oxt_enums.specs.declared.tables.Tables.{Tables}
-use Rattle.oxt_symbol.specs.Constant.{Constant}
+use Rattle.oxt_names.specs.Constant.{Constant}
 
 abbrev value : Known → Option Constant
 value k = k.value

@@ -4,8 +4,8 @@ use Rattle.oxt_declares.specs.Declarations.{Declared}
 use Rattle.oxt_declares.specs.declared.declaration.Sort.{Sort}
 use Rattle.oxt_declares.specs.declared.declaration.Sort.TheVariants as sort
 use Rattle.oxt_enums.specs.declared.blocks.EnumBlock.{EnumBlock}
-use Rattle.oxt_scope.specs.Scopes.{number_of}
-use Rattle.oxt_scopes.specs.Scopes.{Opened}
+use Rattle.oxt_scopes.specs.Scopes.{number_of}
+use Rattle.oxt_scopes.specs.Nestings.{Opened}
 use Rattle.oxt_scopes.specs.declared.standing.Standing.{Standing}
 use Rattle.oxt_scopes.specs.declared.standing.Standing.TheVariants as standing
 

@@ -7,9 +7,9 @@ use Rattle.oxt_constant.specs.Following.{Preceding, nothing, member, is_wide, me
 use Rattle.oxt_enums.specs.Blocks.{Block, blocks_in}
 use Rattle.oxt_enums.specs.Members.{Found, members_of}
 use Rattle.oxt_enums.specs.declared.constants.MemberConstant.{MemberConstant}
-use Rattle.oxt_scope.specs.Owners.{Owned, owners_of}
-use Rattle.oxt_scopes.specs.Scopes.{Opened, scopes_of}
-use Rattle.oxt_symbol.specs.Constant.{Constant, constant_view}
+use Rattle.oxt_scopes.specs.Owners.{Owned, owners_of}
+use Rattle.oxt_scopes.specs.Nestings.{Opened, scopes_of}
+use Rattle.oxt_names.specs.Constant.{Constant, constant_view}
 use Rattle.oxt_tree.specs.Doc.{Doc}
 
 -- a member, the block in which it stands, its constant, and whether it would be larger than the

@@ -5,7 +5,7 @@ use Rattle.oxt_enums.specs.Constants.{Known, Told, first_value, flat, has_number
 use Rattle.oxt_enums.specs.Groups.{Enum, enum_at, enum_in}
 use Rattle.oxt_enums.specs.Tables.{in_bodies, in_enums, in_numbers}
 use Rattle.oxt_enums.specs.declared.enums.EnumConstants.{EnumConstants}
-use Rattle.oxt_symbol.specs.Constant.{Constant}
+use Rattle.oxt_names.specs.Constant.{Constant}
 use Rattle.oxt_tree.specs.declared.ids.Span.{Span}
 
 -- the constants of all members, in the order of the text

@@ -3,10 +3,10 @@ use Rattle.std.specs.Prelude.{ℕ, List, [], ◌∷◌, ◌++◌, if◌then◌el
 use Rattle.oxt_declares.specs.Declares.{member_name}
 use Rattle.oxt_enums.specs.declared.members.Member.{Member}
 use Rattle.oxt_enums.specs.declared.members.Place.{Place}
-use Rattle.oxt_scope.specs.Stack.{number_at}
-use Rattle.oxt_table.specs.Places.{same_kind}
-use Rattle.oxt_table.specs.declared.kind.Kind.{Kind}
-use Rattle.oxt_table.specs.declared.kind.Kind.TheVariants as kind
+use Rattle.oxt_scopes.specs.Stack.{number_at}
+use Rattle.oxt_grammar.specs.Places.{same_kind}
+use Rattle.oxt_grammar.specs.declared.kind.Kind.{Kind}
+use Rattle.oxt_grammar.specs.declared.kind.Kind.TheVariants as kind
 use Rattle.oxt_tree.specs.Doc.{Doc, nil, flag, number, text, list, node, Docs, no_docs, doc}
 use Rattle.oxt_tree.specs.Fields.{named}
 use Rattle.oxt_tree.specs.View.{docs_in}

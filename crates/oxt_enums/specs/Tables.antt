@@ -13,9 +13,9 @@ use Rattle.oxt_enums.specs.declared.constants.Evaluated.{Evaluated}
 use Rattle.oxt_enums.specs.declared.homes.Homes.{Homes}
 use Rattle.oxt_enums.specs.declared.owners.Owners.{Owners}
 use Rattle.oxt_enums.specs.declared.tables.Tables.{Tables}
-use Rattle.oxt_scope.specs.Stack.{number_at}
-use Rattle.oxt_symbol.specs.Constant.{Constant, constant_view}
-use Rattle.oxt_symbol.specs.declared.constant.ConstantValue.{ConstantValue}
+use Rattle.oxt_scopes.specs.Stack.{number_at}
+use Rattle.oxt_names.specs.Constant.{Constant, constant_view}
+use Rattle.oxt_names.specs.declared.constant.ConstantValue.{ConstantValue}
 use Rattle.oxt_tree.specs.declared.ids.NodeId.{NodeId}
 
 -- of what a table has for a constant

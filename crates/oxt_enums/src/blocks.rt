@@ -2,7 +2,7 @@
 ghost use Rattle.std.specs.Prelude.{◌≡◌, ◌++◌, IfOk, OnOk};
 ghost use Rattle.oxt_declares.specs.Declarations.{declared_view, declared_views};
 ghost use Rattle.oxt_enums.specs.Blocks.{block_views, blocks_among, blocks_in, is_const, is_emitted, is_enum, own_block};
-ghost use Rattle.oxt_scope.specs.Scopes.{number_of};
+ghost use Rattle.oxt_scopes.specs.Scopes.{number_of};
 ghost use Rattle.oxt_scopes.specs.Views.{opened_views};
 ghost use Rattle.oxt_tree.specs.View.{doc_or_nil};
 

@@ -8,7 +8,7 @@ ghost use Rattle.oxt_tree.specs.View.{doc_or_nil, docs_in, node_doc, part_doc};
 
 use oxt_declares::declares::text_of;
 use oxt_declares::names::{field_of, list_of};
-use oxt_table::kind::Kind;
+use oxt_grammar::kind::Kind;
 use oxt_tree::ids::{NodeId, OutOfMemory};
 use oxt_tree::tree::{Node, Part};
 use std::alloc::Global;

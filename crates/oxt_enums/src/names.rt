@@ -4,7 +4,7 @@ ghost use Rattle.oxt_enums.specs.Tables.{table_meanings};
 use crate::owners::Owners;
 use crate::tables::Tables;
 use oxt_constant::meanings::Meanings;
-use oxt_symbol::constant::ConstantValue;
+use oxt_names::constant::ConstantValue;
 use oxt_tree::ids::NodeId;
 
 /// What names mean behind the members of which the tables tell.

@@ -2,11 +2,11 @@
 ghost use Rattle.std.specs.Prelude.{◌≡◌, ◌==◌, IfOk, OnOk, Some, if◌then◌else◌, ℕ};
 ghost use Rattle.oxt_enums.specs.Constants.{owner_in};
 ghost use Rattle.oxt_enums.specs.Tables.{at_number, owner_at};
-ghost use Rattle.oxt_scope.specs.OwnedViews.{owned_views};
-ghost use Rattle.oxt_scope.specs.Stack.{number_at};
+ghost use Rattle.oxt_scopes.specs.OwnedViews.{owned_views};
+ghost use Rattle.oxt_scopes.specs.Stack.{number_at};
 
 use indexmap::IndexMap;
-use oxt_scope::owners::OwnedName;
+use oxt_scopes::owners::OwnedName;
 use oxt_tree::ids::{NodeId, OutOfMemory};
 use std::alloc::Global;
 

@@ -3,7 +3,7 @@ use Rattle.std.proofs.Common.{ℕ, ◌+◌, ◌<◌, ◌≤◌, ◌≡◌, refl,
 use Rattle.oxt_tree.proofs.Lists.{drop_at, drop_end}
 use Rattle.oxt_tree.specs.View.{docs_in, part_doc}
 use Rattle.oxt_tree.specs.declared.tree.Part.{Part}
-use Rattle.oxt_uid.specs.Made.{added, all_added}
+use Rattle.oxt_names.specs.Made.{added, all_added}
 use Rattle.oxt_facts.specs.Facts.{bindings, bindings_of_each}
 
 pub all_added-append : (ts us ss : List (List ℕ)) → all_added (ts ++ us) ss ≡ all_added us (all_added ts ss)

@@ -2,14 +2,14 @@
 -- no name of the source is spelled so.
 use Rattle.std.specs.Prelude.{ℕ, List, [], ◌∷◌, ◌++◌, Bool, true, false, not, ◌&&◌, if◌then◌else◌, filter, Option, None, option_to_list, codes}
 use Rattle.std.specs.Str.{bytes_eq}
-use Rattle.oxt_table.specs.Places.{same_kind}
-use Rattle.oxt_table.specs.declared.kind.Kind.{Kind}
-use Rattle.oxt_table.specs.declared.kind.Kind.TheVariants as kind
+use Rattle.oxt_grammar.specs.Places.{same_kind}
+use Rattle.oxt_grammar.specs.declared.kind.Kind.{Kind}
+use Rattle.oxt_grammar.specs.declared.kind.Kind.TheVariants as kind
 use Rattle.oxt_tree.specs.Doc.{Doc, nil, flag, number, text, list, node, Docs, no_docs, doc}
 use Rattle.oxt_tree.specs.Fields.{named, text_in}
 use Rattle.oxt_facts.specs.Privates.{Privates}
 use Rattle.oxt_facts.specs.Told.{Tellings}
-use Rattle.oxt_uid.specs.Made.{all_added, is_among}
+use Rattle.oxt_names.specs.Made.{all_added, is_among}
 
 -- the name that a node itself binds
 abbrev pub own_binding : Kind → Docs → Option (List ℕ)

@@ -1,13 +1,13 @@
 -- What is known of private names inside a class.
 use Rattle.std.specs.Prelude.{ℕ, List, Bool, not, ◌&&◌, ◌||◌, if◌then◌else◌, length, nat_eq, Option, None, Some, is_some, codes}
 use Rattle.std.specs.List.{list_any}
-use Rattle.oxt_table.specs.Places.{kind_in, same_kind}
-use Rattle.oxt_table.specs.declared.category.Category.TheVariants as category
-use Rattle.oxt_table.specs.declared.kind.Kind.{Kind}
-use Rattle.oxt_table.specs.declared.kind.Kind.TheVariants as kind
+use Rattle.oxt_grammar.specs.Places.{kind_in, same_kind}
+use Rattle.oxt_grammar.specs.declared.category.Category.TheVariants as category
+use Rattle.oxt_grammar.specs.declared.kind.Kind.{Kind}
+use Rattle.oxt_grammar.specs.declared.kind.Kind.TheVariants as kind
 use Rattle.oxt_tree.specs.Doc.{Doc, nil, flag, number, text, list, node, Docs, no_docs, doc}
 use Rattle.oxt_tree.specs.Fields.{docs_list, elements, field_of, is_kind, is_text, named, text_in}
-use Rattle.oxt_uid.specs.Made.{added}
+use Rattle.oxt_names.specs.Made.{added}
 use Rattle.oxt_facts.specs.Facts.{Known, in_class, is_made}
 use Rattle.oxt_facts.specs.Privates.{Privates, no_privates, stored_by}
 

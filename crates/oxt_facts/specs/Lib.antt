@@ -1,5 +1,9 @@
+pub mod Compare
+pub mod Entry
 pub mod Facts
 pub mod Inside
+pub mod ItemKinds
 pub mod Privates
 pub mod Shared
+pub mod Tags
 pub mod Told

@@ -2,7 +2,7 @@
 -- that made name.
 use Rattle.std.specs.Prelude.{ℕ, eqb, List, [], ◌-◌, if◌then◌else◌, length, take, drop, Option, None, Some, codes}
 use Rattle.std.specs.List.{starts_with, ends_with, fold}
-use Rattle.oxt_uid.specs.Made.{is_among}
+use Rattle.oxt_names.specs.Made.{is_among}
 
 -- the private names that a class has of its own, and the made names that are the keys of its setters
 pub record Privates : Type 0 where

@@ -1,5 +1,5 @@
--- What is told of the nodes of a source that are read by rules for TypeScript alone: of the blocks of its enums,
--- of their members, and of the bare names that mean members.
+-- What is told of the nodes of a source that are read otherwise than by the rules of their kinds: of the blocks of its
+-- enums, of their members, of the bare names that mean members, and of the imports, exports and specifiers that go.
 use Rattle.std.specs.Prelude.{ℕ, List, map, Bool, nat_eq, Option}
 use Rattle.std.specs.Map.{lookup}
 use Rattle.oxt_facts.specs.declared.told.MemberValue.{MemberValue}
@@ -8,7 +8,7 @@ use Rattle.oxt_facts.specs.declared.told.Told.{Told}
 use Rattle.oxt_facts.specs.declared.told.Told.TheVariants as told
 use Rattle.oxt_facts.specs.declared.told.ToldBlock.{ToldBlock}
 use Rattle.oxt_facts.specs.declared.told.ToldMember.{ToldMember}
-use Rattle.oxt_symbol.specs.Constant.{Constant, constant_view}
+use Rattle.oxt_names.specs.Constant.{Constant, constant_view}
 use Rattle.oxt_tree.specs.Names.{name_bytes}
 
 -- the value of a member: a constant, one more than the member of that name, or what is written
@@ -32,11 +32,14 @@ pub record Member : Type 0 where
   pub value : Value
   pub is_reversed : Bool
 
--- what is told of a node; of a bare name, the enum whose member it means
+-- what is told of a node: of a bare name, the enum whose member it means; `gone`, that the node does nothing; `listless`,
+-- that it is an import that loses its whole list and stays for what its module does
 pub data Telling : Type 0 where
   block : Block → Telling
   member : Member → Telling
   bare : List ℕ → Telling
+  gone : Telling
+  listless : Telling
 
 -- what is told of nodes, by their numbers
 abbrev pub Tellings : Type 0
@@ -62,6 +65,8 @@ abbrev pub told_view : Told → Telling
 told_view (told.Block b) = block (block_view b)
 told_view (told.Member m) = member (member_view m)
 told_view (told.Bare name) = bare (name_bytes name)
+told_view told.Gone = gone
+told_view told.Listless = listless
 
 abbrev pub told_views : List (ℕ × Told) → Tellings
 told_views es = map (λ e. (e.0, told_view e.1)) es

@@ -2,7 +2,7 @@
 ghost use Rattle.std.specs.Prelude.{◌≡◌, ◌++◌, ◌∷◌, [], IfOk, OnOk, filter, if◌then◌else◌, length, nat_eq, option_map, option_to_list};
 ghost use Rattle.oxt_tree.specs.Fields.{named, text_in};
 ghost use Rattle.oxt_tree.specs.View.{docs_in, node_doc, part_doc};
-ghost use Rattle.oxt_uid.specs.Made.{all_added, added, is_among};
+ghost use Rattle.oxt_names.specs.Made.{all_added, added, is_among};
 ghost use Rattle.oxt_facts.specs.Facts.{bindings, bindings_of_each, in_class, is_made, is_new, of_output, of_source, of_told_source, own_binding};
 ghost use Rattle.oxt_facts.specs.Told.{told_of, told_view};
 ghost use Rattle.oxt_facts.specs.Privates.{stored_by, stored_in};
@@ -10,10 +10,10 @@ ghost use Rattle.oxt_facts.specs.Shared.{all_shared, names_shared, told_shared};
 
 use crate::privates::ClassPrivates;
 use crate::told::{Told, ToldNodes};
-use oxt_table::kind::Kind;
+use oxt_grammar::kind::Kind;
+use oxt_names::uid::UidNames;
 use oxt_tree::ids::{NodeId, OutOfMemory};
 use oxt_tree::tree::{Node, Part};
-use oxt_uid::uid::UidNames;
 use std::alloc::Global;
 use std::marker::Model;
 use std::rc::Rc;

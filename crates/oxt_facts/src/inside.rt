@@ -2,15 +2,15 @@
 ghost use Rattle.std.specs.Prelude.{◌≡◌, ◌&&◌, IfOk, None, OnOk, codes, if◌then◌else◌, is_some, option_map};
 ghost use Rattle.std.specs.List.{list_any};
 ghost use Rattle.oxt_tree.specs.Fields.{elements, is_text, named};
-ghost use Rattle.oxt_table.specs.Places.{same_kind};
+ghost use Rattle.oxt_grammar.specs.Places.{same_kind};
 ghost use Rattle.oxt_tree.specs.View.{docs_in, part_doc};
 ghost use Rattle.oxt_facts.specs.Privates.{no_privates};
 ghost use Rattle.oxt_facts.specs.Inside.{chosen_key, first_key, holds_key, inside, is_told, known_or, last_key, made_key, made_name, private_key, private_name, privates_of, setter_name, stored_at, with_made, with_name};
 
 use crate::facts::Facts;
 use crate::privates::ClassPrivates;
-use oxt_table::category::Category;
-use oxt_table::kind::Kind;
+use oxt_grammar::category::Category;
+use oxt_grammar::kind::Kind;
 use oxt_tree::ids::OutOfMemory;
 use oxt_tree::tree::{Node, Part};
 

@@ -1,8 +1,11 @@
-//! What is known of a tree that is read: which of its names are made, which private names of classes store what an
-//! accessor with a made name as its key holds, and what is told of the nodes of a source.
+//! The items of which effect words consist, the comparison of two words, and what is known and told of a tree that is
+//! read.
 #![tactic(auto)]
 
+pub mod compare;
 pub mod facts;
 pub mod inside;
+pub mod item;
 pub mod privates;
+pub mod tags;
 pub mod told;

@@ -1,10 +1,10 @@
-//! What is told of nodes of a source that are read by rules for TypeScript alone.
+//! What is told of nodes of a source that are read otherwise than by the rules of their kinds.
 ghost use Rattle.std.specs.Prelude.{◌≡◌, [], nat_eq, OnOk, option_map};
 ghost use Rattle.indexmap.specs.IndexMap.{insert_entry};
 ghost use Rattle.oxt_facts.specs.Told.{told_of, told_view};
 
 use indexmap::IndexMap;
-use oxt_symbol::constant::ConstantValue;
+use oxt_names::constant::ConstantValue;
 use oxt_tree::ids::{NodeId, OutOfMemory};
 use oxt_tree::name::Name;
 use std::alloc::Global;
@@ -56,6 +56,10 @@ pub enum Told {
     Member(ToldMember),
     /// It is a bare name that means a member of the enum of that name.
     Bare(Name),
+    /// It does nothing: an import or an export that is removed, or a specifier that is not kept.
+    Gone,
+    /// It is an import that loses its whole list, and stays for what its module does.
+    Listless,
 }
 
 /// What is told of nodes, by their numbers.

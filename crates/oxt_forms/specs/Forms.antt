@@ -2,15 +2,15 @@
 use Rattle.std.specs.Prelude.{ℕ, ◌==◌, List, Bool, true, false, not, ◌&&◌, if◌then◌else◌, is_none, codes, nat_lt}
 use Rattle.oxt_facts.specs.Facts.{Known}
 use Rattle.oxt_facts.specs.Told.{told_of}
-use Rattle.oxt_table.specs.declared.category.Category.TheVariants as category
-use Rattle.oxt_table.specs.declared.kind.Kind.{Kind}
-use Rattle.oxt_table.specs.declared.kind.Kind.TheVariants as kind
+use Rattle.oxt_grammar.specs.declared.category.Category.TheVariants as category
+use Rattle.oxt_grammar.specs.declared.kind.Kind.{Kind}
+use Rattle.oxt_grammar.specs.declared.kind.Kind.TheVariants as kind
 use Rattle.oxt_tree.specs.Fields.{first, count}
 use Rattle.oxt_tree.specs.Inner.{seen}
 use Rattle.oxt_tree.specs.Doc.{Doc, nil, flag, number, text, list, node, Docs}
 use Rattle.oxt_tree.specs.Fields.{named, field_of, elements, is_nil, is_set, is_text, is_kind, is_in, is_empty_list}
-use Rattle.oxt_item.specs.declared.item.Binding.{Binding}
-use Rattle.oxt_item.specs.declared.item.Binding.TheVariants as binding
+use Rattle.oxt_facts.specs.declared.item.Binding.{Binding}
+use Rattle.oxt_facts.specs.declared.item.Binding.TheVariants as binding
 
 -- the field of that name, through wrappers and parentheses
 abbrev pub within : List ℕ → Kind → Docs → Doc

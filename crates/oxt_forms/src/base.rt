@@ -9,7 +9,7 @@ ghost use Rattle.oxt_tree.specs.View.{docs_in, doc_or_nil, node_doc, part_doc};
 use crate::forms::{assigns_to, holds_empty_object, is_choice, same_text, within};
 use crate::made::holds_made_use;
 use oxt_facts::facts::Facts;
-use oxt_table::kind::Kind;
+use oxt_grammar::kind::Kind;
 use oxt_tree::tree::{Node, Part};
 
 /// The field of that name of the part, through wrappers and parentheses.

@@ -7,9 +7,9 @@ ghost use Rattle.oxt_tree.specs.View.{docs_in, doc_or_nil, node_doc, part_doc};
 ghost use Rattle.oxt_forms.specs.Forms.{binding_of, is_argument, is_bare_list, is_bare_parameter, is_called, is_callable, is_bare_name, is_choice, is_empty_object, is_found, is_found_made, is_long, is_name_again, is_one, is_put, makes, same_text, within};
 
 use oxt_facts::facts::Facts;
-use oxt_item::item::Binding;
-use oxt_table::category::Category;
-use oxt_table::kind::Kind;
+use oxt_facts::item::Binding;
+use oxt_grammar::category::Category;
+use oxt_grammar::kind::Kind;
 use oxt_tree::fields::count;
 use oxt_tree::tree::{Node, Part};
 

@@ -9,7 +9,7 @@ ghost use Rattle.oxt_tree.specs.View.{docs_in, part_doc};
 
 use crate::forms::{lists_nothing, within};
 use oxt_facts::facts::Facts;
-use oxt_table::kind::Kind;
+use oxt_grammar::kind::Kind;
 use oxt_tree::tree::{Node, Part};
 
 /// Whether the part is the use of a made name.

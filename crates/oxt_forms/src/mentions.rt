@@ -1,12 +1,12 @@
 //! Names that stand in a tree.
 ghost use Rattle.std.specs.Prelude.{◌≡◌, ◌&&◌, ◌||◌, codes};
 ghost use Rattle.oxt_forms.specs.Made.{any_mentions, mentions};
-ghost use Rattle.oxt_table.specs.Places.{same_kind};
-ghost use Rattle.oxt_table.specs.declared.kind.Kind.TheVariants as kind;
+ghost use Rattle.oxt_grammar.specs.Places.{same_kind};
+ghost use Rattle.oxt_grammar.specs.declared.kind.Kind.TheVariants as kind;
 ghost use Rattle.oxt_tree.specs.Fields.{is_text, named};
 ghost use Rattle.oxt_tree.specs.View.{docs_in, node_doc, part_doc};
 
-use oxt_table::kind::Kind;
+use oxt_grammar::kind::Kind;
 use oxt_tree::tree::{Node, Part};
 
 /// Whether the name stands in the node, as a binding or as a use.

@@ -11,7 +11,7 @@ use crate::forms::{is_one, lists_nothing};
 use crate::made::{is_made_binding, is_made_use, is_silent_declaration};
 use crate::mentions::mentions;
 use oxt_facts::facts::Facts;
-use oxt_table::kind::Kind;
+use oxt_grammar::kind::Kind;
 use oxt_tree::tree::{Node, Part};
 
 /// Whether the part is `...p` with a made name.

@@ -8,11 +8,11 @@ use Rattle.std.specs.Option.{option_eq}
 use Rattle.std.specs.Prelude.{IsSomeAnd, nat_eq, position, slice_get}
 use Rattle.oxt_hygiene.specs.Keeps.{HasOwner, IsFirstMoved, IsMoved, IsTableOf, KeepsOwner, first_moved, has_owner, is_type_use, keeps_owner}
 use Rattle.oxt_hygiene.specs.Left.{OwnerList}
-use Rattle.oxt_scope.specs.Owners.{Owned}
-use Rattle.oxt_scope.specs.OwnedViews.{owned_view, owned_views}
-use Rattle.oxt_scope.specs.declared.owners.OwnedName.{OwnedName}
-use Rattle.oxt_scope.specs.declared.usage.Usage.{Usage}
-use Rattle.oxt_scope.specs.declared.usage.Usage.TheVariants as usage
+use Rattle.oxt_scopes.specs.Owners.{Owned}
+use Rattle.oxt_scopes.specs.OwnedViews.{owned_view, owned_views}
+use Rattle.oxt_scopes.specs.declared.owners.OwnedName.{OwnedName}
+use Rattle.oxt_scopes.specs.declared.usage.Usage.{Usage}
+use Rattle.oxt_scopes.specs.declared.usage.Usage.TheVariants as usage
 use Rattle.oxt_scoping.specs.Scoped.{Each}
 
 pub each_so : {A : Type 0} (P Q : A → Type 0) (xs : List A) → ((x : A) → P x → Q x) → Each P xs → Each Q xs

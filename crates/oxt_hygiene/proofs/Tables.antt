@@ -6,10 +6,10 @@ use Rattle.std.specs.Prelude.{nat_eq, if◌then◌else◌}
 use Rattle.indexmap.specs.IndexMap.{insert_entry}
 use Rattle.oxt_hygiene.specs.Keeps.{IsTableOf}
 use Rattle.oxt_hygiene.specs.Left.{OwnerList, left_from, left_owner}
-use Rattle.oxt_scope.proofs.Tables.{look_insert}
-use Rattle.oxt_scope.specs.OwnedViews.{owned_views}
-use Rattle.oxt_scope.specs.Stack.{number_at}
-use Rattle.oxt_scope.specs.declared.owners.OwnedName.{OwnedName}
+use Rattle.oxt_scopes.proofs.Tables.{look_insert}
+use Rattle.oxt_scopes.specs.OwnedViews.{owned_views}
+use Rattle.oxt_scopes.specs.Stack.{number_at}
+use Rattle.oxt_scopes.specs.declared.owners.OwnedName.{OwnedName}
 use Rattle.oxt_scoping.specs.declared.entry.Slot.{Slot}
 use Rattle.oxt_tree.proofs.Lists.{drop_at, drop_end}
 

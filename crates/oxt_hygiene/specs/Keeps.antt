@@ -3,9 +3,9 @@ use Rattle.std.specs.Prelude.{◌≡◌, ℕ, List, Bool, true, false, not, ◌|
 use Rattle.std.specs.Map.{lookup}
 use Rattle.std.specs.Option.{option_eq}
 use Rattle.oxt_tree.specs.Doc.{Doc}
-use Rattle.oxt_scope.specs.Owners.{Owned, owners_of}
-use Rattle.oxt_scope.specs.declared.usage.Usage.{Usage}
-use Rattle.oxt_scope.specs.declared.usage.Usage.TheVariants as usage
+use Rattle.oxt_scopes.specs.Owners.{Owned, owners_of}
+use Rattle.oxt_scopes.specs.declared.usage.Usage.{Usage}
+use Rattle.oxt_scopes.specs.declared.usage.Usage.TheVariants as usage
 use Rattle.oxt_scoping.specs.Scoped.{Each, Scoped}
 use Rattle.oxt_hygiene.specs.Left.{OwnerList, left_owners}
 

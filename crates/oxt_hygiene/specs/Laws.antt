@@ -1,7 +1,7 @@
 -- What the first name that moved says of an output.
 use Rattle.std.specs.Prelude.{◌≡◌, ℕ, Bool, None, Some}
 use Rattle.oxt_tree.specs.Doc.{Doc}
-use Rattle.oxt_scope.specs.Owners.{owners_of}
+use Rattle.oxt_scopes.specs.Owners.{owners_of}
 use Rattle.oxt_scoping.specs.Scoped.{Scoped}
 use Rattle.oxt_hygiene.specs.Keeps.{IsFirstMoved, IsTableOf, KeepsOwners, first_moved}
 use Rattle.oxt_hygiene.specs.Left.{OwnerList, left_owners}

@@ -3,15 +3,15 @@
 use Rattle.std.specs.Prelude.{ℕ, ◌+◌, List, [], ◌∷◌, Bool, false, not, ◌&&◌, ◌||◌, if◌then◌else◌, Option, None, Some, map, nat_le, count_by, slice_index_or, ◌==◌}
 use Rattle.std.specs.Int.RustNames.{bit_and}
 use Rattle.std.specs.List.{list_any}
-use Rattle.oxt_scope.specs.Owners.{Owned}
+use Rattle.oxt_scopes.specs.Owners.{Owned}
 use Rattle.oxt_scoping.specs.Entries.{SymbolData}
 use Rattle.oxt_scoping.specs.Scoped.{Scoped, live_at}
 use Rattle.oxt_scoping.specs.declared.entry.Redeclaration.{Redeclaration}
 use Rattle.oxt_scoping.specs.declared.entry.Reference.{Reference}
 use Rattle.oxt_scoping.specs.declared.entry.Slot.{Slot}
-use Rattle.oxt_symbol.specs.Flags.{is_type_alone}
-use Rattle.oxt_symbol.specs.declared.flags.SymbolFlags.{SymbolFlags}
-use Rattle.oxt_symbol.specs.declared.ids.SymbolId.{SymbolId}
+use Rattle.oxt_names.specs.Flags.{is_type_alone}
+use Rattle.oxt_names.specs.declared.flags.SymbolFlags.{SymbolFlags}
+use Rattle.oxt_names.specs.declared.ids.SymbolId.{SymbolId}
 
 -- names by their numbers, each with its owner, none where it is free
 abbrev pub OwnerList : Type 0

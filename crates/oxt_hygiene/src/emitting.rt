@@ -3,10 +3,10 @@ ghost use Rattle.std.specs.Prelude.{◌≡◌, ◌<◌, IfOk, Some, length, map,
 ghost use Rattle.oxt_hygiene.specs.Left.{emits, is_emitting_import, is_emitting_other, is_import, is_value, some_emits};
 
 use bitflags::Flags;
+use oxt_names::flags::SymbolFlags;
+use oxt_names::ids::SymbolId;
 use oxt_scoping::entry::Redeclaration;
 use oxt_scoping::scoping::Scoping;
-use oxt_symbol::flags::SymbolFlags;
-use oxt_symbol::ids::SymbolId;
 use oxt_tree::ids::OutOfMemory;
 use std::alloc::Global;
 

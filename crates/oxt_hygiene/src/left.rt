@@ -3,14 +3,14 @@ ghost use Rattle.std.specs.Prelude.{◌≡◌, IfOk, OnOk, Some, if◌then◌els
 ghost use Rattle.std.specs.Map.{lookup};
 ghost use Rattle.oxt_hygiene.specs.Keeps.{IsTableOf};
 ghost use Rattle.oxt_hygiene.specs.Left.{is_emitted, is_left, left_from, left_owner};
-ghost use Rattle.oxt_scope.specs.OwnedViews.{owned_views};
-ghost use Rattle.oxt_scope.specs.Stack.{number_at};
+ghost use Rattle.oxt_scopes.specs.OwnedViews.{owned_views};
+ghost use Rattle.oxt_scopes.specs.Stack.{number_at};
 ghost use Rattle.oxt_scoping.specs.Scoped.{live_at};
 
 use indexmap::IndexMap;
-use oxt_scope::owners::OwnedName;
+use oxt_names::ids::{ReferenceId, SymbolId};
+use oxt_scopes::owners::OwnedName;
 use oxt_scoping::scoping::Scoping;
-use oxt_symbol::ids::{ReferenceId, SymbolId};
 use oxt_tree::ids::{NodeId, OutOfMemory};
 use std::alloc::Global;
 

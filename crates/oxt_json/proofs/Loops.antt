@@ -4,10 +4,10 @@ use Rattle.std.proofs.lemmas.List.{map-append, drop_all}
 use Rattle.std.specs.Fmt.{decimal}
 use Rattle.serde_json.specs.View.{view, items_view}
 use Rattle.serde_json.specs.declared.value.Value.{Value}
-use Rattle.oxt_table.specs.Field.{row_view}
-use Rattle.oxt_table.specs.declared.context.Setting.{Setting}
-use Rattle.oxt_table.specs.declared.holds.Holds.{Holds}
-use Rattle.oxt_table.specs.declared.holds.Row.{Row}
+use Rattle.oxt_grammar.specs.Field.{row_view}
+use Rattle.oxt_grammar.specs.declared.context.Setting.{Setting}
+use Rattle.oxt_grammar.specs.declared.holds.Holds.{Holds}
+use Rattle.oxt_grammar.specs.declared.holds.Row.{Row}
 use Rattle.oxt_tree.specs.Doc.{Doc}
 use Rattle.oxt_tree.specs.View.{part_doc}
 use Rattle.oxt_tree.specs.declared.tree.Part.{Part}

@@ -4,11 +4,11 @@ use Rattle.std.specs.Cmp.Lexicographic.{slice_cmp}
 use Rattle.std.specs.Ordering.{match_ordering}
 use Rattle.serde_json.specs.Data.{Data, Members, no_members, member}
 use Rattle.serde_json.specs.Find.{get_member}
-use Rattle.oxt_table.specs.Field.{row_view}
-use Rattle.oxt_table.specs.Places.{narrow}
-use Rattle.oxt_table.specs.declared.context.Setting.{Setting}
-use Rattle.oxt_table.specs.declared.holds.Holds.{Holds}
-use Rattle.oxt_table.specs.declared.holds.Row.{Row}
+use Rattle.oxt_grammar.specs.Field.{row_view}
+use Rattle.oxt_grammar.specs.Places.{narrow}
+use Rattle.oxt_grammar.specs.declared.context.Setting.{Setting}
+use Rattle.oxt_grammar.specs.declared.holds.Holds.{Holds}
+use Rattle.oxt_grammar.specs.declared.holds.Row.{Row}
 use Rattle.oxt_json.specs.Answer.{allowed}
 use Rattle.oxt_json.specs.Reading.{read_as, member_as, missing_doc, field_as}
 

@@ -2,9 +2,9 @@
 use Rattle.std.proofs.Common.{◌≡◌, List, [], ◌∷◌, ℕ, Bool, ◌||◌, true, false, Option, Some, None, option_map, cond, refl, sym, ap, ◌∙◌, bytes_eq}
 use Rattle.std.specs.List.{find, list_any}
 use Rattle.std.proofs.lemmas.Slice.Eq.{bytes_eq-Decides}
-use Rattle.oxt_table.specs.Words.{text_of, words_in}
-use Rattle.oxt_table.specs.declared.word.Word.{Word}
-use Rattle.oxt_table.specs.declared.word.Words.{Words}
+use Rattle.oxt_grammar.specs.Words.{text_of, words_in}
+use Rattle.oxt_grammar.specs.declared.word.Word.{Word}
+use Rattle.oxt_grammar.specs.declared.word.Words.{Words}
 use Rattle.oxt_tree.specs.Doc.{text}
 use Rattle.oxt_valid.specs.Valid.{is_among}
 

@@ -2,10 +2,10 @@
 use Rattle.std.specs.Prelude.{ℕ, List, Bool, if◌then◌else◌, Option, None, Some, option_and_then, nat_lt, ◌^◌}
 use Rattle.serde_json.specs.Data.{Num, Data}
 use Rattle.serde_json.specs.Find.{as_u64, as_number, as_str}
-use Rattle.oxt_table.specs.Places.{allows_null, allows_flag, allows_number, kind_named}
-use Rattle.oxt_table.specs.declared.category.Category.{Category}
-use Rattle.oxt_table.specs.declared.holds.Holds.{Holds}
-use Rattle.oxt_table.specs.declared.kind.Kind.{Kind}
+use Rattle.oxt_grammar.specs.Places.{allows_null, allows_flag, allows_number, kind_named}
+use Rattle.oxt_grammar.specs.declared.category.Category.{Category}
+use Rattle.oxt_grammar.specs.declared.holds.Holds.{Holds}
+use Rattle.oxt_grammar.specs.declared.kind.Kind.{Kind}
 use Rattle.oxt_tree.specs.Doc as doc
 use Rattle.oxt_tree.specs.Doc.{Doc}
 use Rattle.oxt_valid.specs.Valid.{allows_text}

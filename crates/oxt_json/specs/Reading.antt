@@ -5,17 +5,17 @@ use Rattle.std.specs.Fmt.{decimal}
 use Rattle.std.specs.Ordering.{nat_cmp, match_ordering}
 use Rattle.serde_json.specs.Data.{Data, null, boolean, number, string, array, object, Items, no_items, item, Members, no_members, member}
 use Rattle.serde_json.specs.Find.{get_member}
-use Rattle.oxt_table.specs.Context.{setting_of}
-use Rattle.oxt_table.specs.Field.{Field, is_required}
-use Rattle.oxt_table.specs.Places.{narrow, element_of, category_of}
-use Rattle.oxt_table.specs.Rows.{row_of}
-use Rattle.oxt_table.specs.declared.category.Category.{Category}
-use Rattle.oxt_table.specs.declared.category.Category.TheVariants as category
-use Rattle.oxt_table.specs.declared.context.Setting.{Setting}
-use Rattle.oxt_table.specs.declared.context.Setting.TheVariants.{Elsewhere}
-use Rattle.oxt_table.specs.declared.holds.Holds.{Holds}
-use Rattle.oxt_table.specs.declared.holds.Holds.TheVariants as holds
-use Rattle.oxt_table.specs.declared.kind.Kind.{Kind}
+use Rattle.oxt_grammar.specs.Context.{setting_of}
+use Rattle.oxt_grammar.specs.Field.{Field, is_required}
+use Rattle.oxt_grammar.specs.Places.{narrow, element_of, category_of}
+use Rattle.oxt_grammar.specs.Rows.{row_of}
+use Rattle.oxt_grammar.specs.declared.category.Category.{Category}
+use Rattle.oxt_grammar.specs.declared.category.Category.TheVariants as category
+use Rattle.oxt_grammar.specs.declared.context.Setting.{Setting}
+use Rattle.oxt_grammar.specs.declared.context.Setting.TheVariants.{Elsewhere}
+use Rattle.oxt_grammar.specs.declared.holds.Holds.{Holds}
+use Rattle.oxt_grammar.specs.declared.holds.Holds.TheVariants as holds
+use Rattle.oxt_grammar.specs.declared.kind.Kind.{Kind}
 use Rattle.oxt_valid.specs.Condition.{fault}
 use Rattle.oxt_tree.specs.Doc.{Doc, list, node, docs_of}
 use Rattle.oxt_tree.specs.Fields.{default_of}

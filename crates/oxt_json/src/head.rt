@@ -9,8 +9,8 @@ ghost use Rattle.oxt_json.specs.Misreads.{IsCause};
 ghost use Rattle.oxt_json.specs.Reading.{head_as};
 
 use crate::misread::Misread;
-use oxt_table::category::Category;
-use oxt_table::kind::Kind;
+use oxt_grammar::category::Category;
+use oxt_grammar::kind::Kind;
 use oxt_tree::ids::Span;
 use serde_json::{Map, Value};
 use std::alloc::Global;

@@ -1,15 +1,15 @@
 //! Values without nodes in them.
 ghost use Rattle.std.specs.Prelude.{◌≡◌, IfOk, option_map, if◌then◌else◌, Some, None};
 ghost use Rattle.serde_json.specs.View.{number_view};
-ghost use Rattle.oxt_table.specs.Field.{row_view};
-ghost use Rattle.oxt_table.specs.Places.{words_of};
+ghost use Rattle.oxt_grammar.specs.Field.{row_view};
+ghost use Rattle.oxt_grammar.specs.Places.{words_of};
 ghost use Rattle.oxt_tree.specs.Doc as doc;
 ghost use Rattle.oxt_valid.specs.Valid.{is_among};
 ghost use Rattle.oxt_tree.specs.View.{part_doc};
 ghost use Rattle.oxt_json.specs.Leaves.{null_doc, flag_doc, number_doc, text_doc};
 ghost use Rattle.oxt_json.specs.Reading.{missing_doc};
 
-use oxt_table::holds::{Holds, Presence, Row};
+use oxt_grammar::holds::{Holds, Presence, Row};
 use oxt_tree::fields::default_part;
 use oxt_tree::ids::OutOfMemory;
 use oxt_tree::name::Name;

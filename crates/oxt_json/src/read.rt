@@ -9,8 +9,8 @@ ghost use Rattle.oxt_json.specs.Spelling.{reading, value_of, no_value, wrong, tr
 
 use crate::misread::Misread;
 use crate::nodes::read_node;
-use oxt_table::category::Category;
-use oxt_table::context::Setting;
+use oxt_grammar::category::Category;
+use oxt_grammar::context::Setting;
 use oxt_tree::ids::NodeIds;
 use oxt_tree::name::Name;
 use oxt_tree::tree::{Node, Program};

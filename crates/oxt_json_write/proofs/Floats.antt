@@ -4,10 +4,10 @@ use Rattle.std.proofs.lemmas.Bool.{or_from, or_parts}
 use Rattle.std.specs.Cmp.Lexicographic.{slice_cmp}
 use Rattle.std.specs.Ordering.{nat_cmp, match_ordering}
 use Rattle.oxt_json_write.specs.Spelled.{data_of, each_data, put_field, put_fields, heading, text_of}
-use Rattle.oxt_table.specs.Field.{Field}
-use Rattle.oxt_table.specs.Kinds.{name_of}
-use Rattle.oxt_table.specs.Rows.{row_of}
-use Rattle.oxt_table.specs.declared.kind.Kind.{Kind}
+use Rattle.oxt_grammar.specs.Field.{Field}
+use Rattle.oxt_grammar.specs.Kinds.{name_of}
+use Rattle.oxt_grammar.specs.Rows.{row_of}
+use Rattle.oxt_grammar.specs.declared.kind.Kind.{Kind}
 use Rattle.oxt_tree.specs.Doc.{Doc, nil, flag, number, text, list, node, Docs, no_docs, doc}
 use Rattle.oxt_tree.specs.Fields.{is_left_out}
 use Rattle.serde_json.specs.Data as json

@@ -2,8 +2,8 @@
 use Rattle.std.proofs.Common.{◌≡◌, ◌∙◌, refl, sym, ap, subst, ℕ, ◌+◌, ◌<◌, ◌≤◌, List, [], ◌∷◌, ◌++◌, map, length, drop, get_or, add-one, append_assoc, append-nil, drop-cons}
 use Rattle.std.proofs.lemmas.List.{drop_all, map-append}
 use Rattle.oxt_json_write.specs.Spelled.{data_of, each_data, put_field, put_fields}
-use Rattle.oxt_table.specs.Field.{Field, row_view}
-use Rattle.oxt_table.specs.declared.holds.Row.{Row}
+use Rattle.oxt_grammar.specs.Field.{Field, row_view}
+use Rattle.oxt_grammar.specs.declared.holds.Row.{Row}
 use Rattle.oxt_tree.specs.Doc.{no_docs}
 use Rattle.oxt_tree.specs.View.{docs_in, part_doc}
 use Rattle.oxt_tree.specs.declared.tree.Part.{Part}

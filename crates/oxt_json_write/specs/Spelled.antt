@@ -1,9 +1,9 @@
 -- How a document is spelled as JSON.
 use Rattle.std.specs.Prelude.{ℕ, ◌≡◌, ◌≤◌, List, [], ◌∷◌, ◌==◌, if◌then◌else◌, Some, codes}
-use Rattle.oxt_table.specs.Field.{Field}
-use Rattle.oxt_table.specs.Kinds.{name_of}
-use Rattle.oxt_table.specs.Rows.{row_of}
-use Rattle.oxt_table.specs.declared.kind.Kind.{Kind}
+use Rattle.oxt_grammar.specs.Field.{Field}
+use Rattle.oxt_grammar.specs.Kinds.{name_of}
+use Rattle.oxt_grammar.specs.Rows.{row_of}
+use Rattle.oxt_grammar.specs.declared.kind.Kind.{Kind}
 use Rattle.oxt_tree.specs.Doc.{Doc, nil, flag, number, text, list, node, Docs, no_docs, doc}
 use Rattle.oxt_tree.specs.Fields.{is_left_out}
 use Rattle.serde_json.specs.Data as json

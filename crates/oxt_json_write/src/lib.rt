@@ -3,15 +3,15 @@
 
 ghost use Rattle.std.specs.Prelude.{◌≡◌, IfOk, OnOk, map};
 ghost use Rattle.oxt_json_write.specs.Spelled.{text_of, data_of, each_data, put_field, put_fields, put_offset, heading, ReadsBack};
-ghost use Rattle.oxt_table.specs.Field.{row_view};
+ghost use Rattle.oxt_grammar.specs.Field.{row_view};
 ghost use Rattle.oxt_tree.specs.View.{docs_in, node_doc, part_doc};
 ghost use Rattle.serde_json.specs.Data.{array, put};
 ghost use Rattle.serde_json.specs.View.{view, items_of, members_view};
 ghost use Rattle.serde_json.specs.Written.{IsInOrder};
 ghost use Rattle.std.specs.Str.{IsUtf8};
 
-use oxt_table::holds::Row;
-use oxt_table::kind::Kind;
+use oxt_grammar::holds::Row;
+use oxt_grammar::kind::Kind;
 use oxt_tree::ids::{OutOfMemory, Span};
 use oxt_tree::tree::{Node, Part, Program};
 use serde_json::{Map, Value};

@@ -5,16 +5,16 @@ use Rattle.std.specs.List.{list_any}
 use Rattle.std.specs.Str.{bytes_eq}
 use Rattle.oxt_laws.proofs.Numbers.{numbering_each}
 use Rattle.oxt_laws.specs.Numbers.{each_numbered, unnumbered, each_unnumbered}
-use Rattle.oxt_table.specs.Context.{condition_of}
-use Rattle.oxt_table.specs.Field.{Field}
-use Rattle.oxt_table.specs.Places.{kind_in}
-use Rattle.oxt_table.specs.Rows.{row_of}
-use Rattle.oxt_table.specs.declared.category.Category.{Category}
-use Rattle.oxt_table.specs.declared.category.Category.TheVariants as category
-use Rattle.oxt_table.specs.declared.context.Condition.{Condition}
-use Rattle.oxt_table.specs.declared.context.Condition.TheVariants as condition
-use Rattle.oxt_table.specs.declared.context.Setting.{Setting}
-use Rattle.oxt_table.specs.declared.kind.Kind.{Kind}
+use Rattle.oxt_grammar.specs.Context.{condition_of}
+use Rattle.oxt_grammar.specs.Field.{Field}
+use Rattle.oxt_grammar.specs.Places.{kind_in}
+use Rattle.oxt_grammar.specs.Rows.{row_of}
+use Rattle.oxt_grammar.specs.declared.category.Category.{Category}
+use Rattle.oxt_grammar.specs.declared.category.Category.TheVariants as category
+use Rattle.oxt_grammar.specs.declared.context.Condition.{Condition}
+use Rattle.oxt_grammar.specs.declared.context.Condition.TheVariants as condition
+use Rattle.oxt_grammar.specs.declared.context.Setting.{Setting}
+use Rattle.oxt_grammar.specs.declared.kind.Kind.{Kind}
 use Rattle.oxt_valid.specs.Condition.{key_fails, chain_fails, template_fails, begins_with_text, is_plain_template, member_fails, is_constructor, is_static_constructor, is_constructor_with_body, constructors_fail, literal_fails, fault_of, fault}
 use Rattle.oxt_tree.specs.Fields.{first, count}
 use Rattle.oxt_tree.specs.Inner.{seen}

@@ -5,10 +5,10 @@ use Rattle.std.proofs.lemmas.Bool.{and_parts, or_parts}
 use Rattle.std.proofs.lemmas.Slice.Eq.{bytes_eq-Decides}
 use Rattle.oxt_json_write.specs.Spelled.{data_of, each_data, put_field, put_fields, heading}
 use Rattle.oxt_laws.proofs.DistinctKeys.{is_among, are_distinct, names_of, distinct_keys}
-use Rattle.oxt_table.specs.Field.{Field}
-use Rattle.oxt_table.specs.Kinds.{name_of}
-use Rattle.oxt_table.specs.Rows.{row_of}
-use Rattle.oxt_table.specs.declared.kind.Kind.{Kind}
+use Rattle.oxt_grammar.specs.Field.{Field}
+use Rattle.oxt_grammar.specs.Kinds.{name_of}
+use Rattle.oxt_grammar.specs.Rows.{row_of}
+use Rattle.oxt_grammar.specs.declared.kind.Kind.{Kind}
 use Rattle.oxt_tree.specs.Doc.{Docs, no_docs, doc}
 use Rattle.oxt_tree.specs.Fields.{is_left_out}
 use Rattle.serde_json.proofs.Views.{get_member-put, get_member-put_other}

@@ -6,15 +6,15 @@ use Rattle.std.specs.Ordering.{nat_cmp, match_ordering}
 use Rattle.std.proofs.lemmas.Bool.{and_parts, and_from, ltb-true, leb-true, lt-ltb}
 use Rattle.std.proofs.lemmas.Fmt.{decimal_injective}
 use Rattle.oxt_json_write.specs.Spelled.{data_of, each_data, put_field, put_fields, heading}
-use Rattle.oxt_table.specs.Context.{setting_of}
-use Rattle.oxt_table.specs.Field.{Field}
-use Rattle.oxt_table.specs.Kinds.{name_of}
-use Rattle.oxt_table.specs.Places.{narrow, element_of, category_of, allows_number}
-use Rattle.oxt_table.specs.Rows.{row_of}
-use Rattle.oxt_table.specs.declared.context.Setting.{Setting}
-use Rattle.oxt_table.specs.declared.holds.Holds.{Holds}
-use Rattle.oxt_table.specs.declared.holds.Holds.TheVariants as holds
-use Rattle.oxt_table.specs.declared.kind.Kind.{Kind}
+use Rattle.oxt_grammar.specs.Context.{setting_of}
+use Rattle.oxt_grammar.specs.Field.{Field}
+use Rattle.oxt_grammar.specs.Kinds.{name_of}
+use Rattle.oxt_grammar.specs.Places.{narrow, element_of, category_of, allows_number}
+use Rattle.oxt_grammar.specs.Rows.{row_of}
+use Rattle.oxt_grammar.specs.declared.context.Setting.{Setting}
+use Rattle.oxt_grammar.specs.declared.holds.Holds.{Holds}
+use Rattle.oxt_grammar.specs.declared.holds.Holds.TheVariants as holds
+use Rattle.oxt_grammar.specs.declared.kind.Kind.{Kind}
 use Rattle.oxt_tree.specs.Doc as doc
 use Rattle.oxt_tree.specs.Doc.{Doc, Docs}
 use Rattle.oxt_tree.specs.Fields.{is_left_out}

@@ -13,17 +13,17 @@ use Rattle.oxt_json.specs.Answer.{and_then, mapped, allowed}
 use Rattle.oxt_json.specs.Leaves.{offset_at}
 use Rattle.oxt_laws.specs.Numbers.{numbered, each_numbered}
 use Rattle.oxt_json.specs.Reading.{Reader, list_as, head_as, field_as, fields_as, whole_node, headed_as, node_as, read_as, each_as, member_as}
-use Rattle.oxt_table.specs.Context.{setting_of}
-use Rattle.oxt_table.specs.Field.{Field, is_required}
-use Rattle.oxt_table.specs.Places.{kind_in, narrow, element_of, allows_null, allows_flag, allows_number, category_of}
-use Rattle.oxt_table.specs.Rows.{row_of}
-use Rattle.oxt_table.specs.Words.{text_of, words_in}
-use Rattle.oxt_table.specs.declared.category.Category.{Category}
-use Rattle.oxt_table.specs.declared.context.Setting.{Setting}
-use Rattle.oxt_table.specs.declared.holds.Holds.{Holds}
-use Rattle.oxt_table.specs.declared.holds.Holds.TheVariants as holds
-use Rattle.oxt_table.specs.declared.kind.Kind.{Kind}
-use Rattle.oxt_table.specs.declared.word.Word.{Word}
+use Rattle.oxt_grammar.specs.Context.{setting_of}
+use Rattle.oxt_grammar.specs.Field.{Field, is_required}
+use Rattle.oxt_grammar.specs.Places.{kind_in, narrow, element_of, allows_null, allows_flag, allows_number, category_of}
+use Rattle.oxt_grammar.specs.Rows.{row_of}
+use Rattle.oxt_grammar.specs.Words.{text_of, words_in}
+use Rattle.oxt_grammar.specs.declared.category.Category.{Category}
+use Rattle.oxt_grammar.specs.declared.context.Setting.{Setting}
+use Rattle.oxt_grammar.specs.declared.holds.Holds.{Holds}
+use Rattle.oxt_grammar.specs.declared.holds.Holds.TheVariants as holds
+use Rattle.oxt_grammar.specs.declared.kind.Kind.{Kind}
+use Rattle.oxt_grammar.specs.declared.word.Word.{Word}
 use Rattle.oxt_valid.specs.Condition.{fault}
 use Rattle.oxt_tree.specs.Doc.{Doc, nil, flag, number, text, list, node, Docs, no_docs, doc, docs_of}
 use Rattle.oxt_tree.specs.Fields.{docs_list, word_doc, default_of, is_word, is_default, is_left_out}

@@ -12,9 +12,9 @@ use Rattle.oxt_laws.specs.Laws.{DataReadsBack, TextReadsBack, DataTellsTrees, Te
 use Rattle.oxt_laws.specs.Numbers.{numbered, unnumbered}
 use Rattle.oxt_json.specs.Reading.{tree_of}
 use Rattle.oxt_json.specs.Spelling.{value_of, answered, value_reading}
-use Rattle.oxt_table.specs.declared.category.Category.TheVariants as category
-use Rattle.oxt_table.specs.declared.context.Setting.TheVariants.{Elsewhere}
-use Rattle.oxt_table.specs.declared.holds.Holds.TheVariants as holds
+use Rattle.oxt_grammar.specs.declared.category.Category.TheVariants as category
+use Rattle.oxt_grammar.specs.declared.context.Setting.TheVariants.{Elsewhere}
+use Rattle.oxt_grammar.specs.declared.holds.Holds.TheVariants as holds
 use Rattle.oxt_tree.specs.Doc.{Doc}
 use Rattle.serde_json.specs.Data.{Data}
 use Rattle.serde_json.specs.Read.{read}

@@ -1,7 +1,1 @@
-pub mod Blocks
-pub mod Lists
-pub mod Names
-pub mod Planned
-pub mod Results
-pub mod Statements
-pub mod Uses
+pub mod Tables

@@ -1,12 +1,6 @@
 -- What the pass changes of a context.
-use Rattle.std.specs.Prelude.{List, []}
 use Rattle.oxt_ctx.specs.Context.{Context}
-use Rattle.oxt_traverse.specs.Visits.{Visit}
 
 -- the first context but for the table of names and the next number, which are those of the second
 abbrev pub but_table_of : Context → Context → Context
 but_table_of old new = record old { scoping = new.scoping; ids = new.ids }
-
--- what the pass logs
-abbrev pub no_log : List Visit
-no_log = []

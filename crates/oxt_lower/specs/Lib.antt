@@ -1,12 +1,4 @@
-pub mod Block
 pub mod Context
-pub mod Facts
-pub mod Members
 pub mod Named
 pub mod Nodes
-pub mod Puts
-pub mod Renamed
 pub mod Statement
-pub mod Syntax
-pub mod Uses
-pub mod Values

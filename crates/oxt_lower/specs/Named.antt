@@ -4,9 +4,9 @@ use Rattle.std.specs.Int.RustNames.{bit_and}
 use Rattle.oxt_scoping.specs.Entries.{ScopeData, SymbolData}
 use Rattle.oxt_scoping.specs.Scoped.{Scoped, at_node, live_at, still}
 use Rattle.oxt_scoping.specs.declared.entry.Reference.{Reference}
-use Rattle.oxt_symbol.specs.declared.ids.ReferenceId.{ReferenceId}
-use Rattle.oxt_symbol.specs.declared.ids.ScopeId.{ScopeId}
-use Rattle.oxt_symbol.specs.declared.ids.SymbolId.{SymbolId}
+use Rattle.oxt_names.specs.declared.ids.ReferenceId.{ReferenceId}
+use Rattle.oxt_names.specs.declared.ids.ScopeId.{ScopeId}
+use Rattle.oxt_names.specs.declared.ids.SymbolId.{SymbolId}
 
 -- that scope
 abbrev pub is_here : ScopeId → Option ScopeId → Bool

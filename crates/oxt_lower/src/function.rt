@@ -1,13 +1,6 @@
 //! The function of the block of an enum, and its call.
 ghost use Rattle.std.specs.Prelude.{◌≡◌, ◌+◌, ◌<◌, IfOk, IfSome, OnOk, length};
-ghost use Rattle.oxt_lower.specs.Block.{argument_numbers, argument_of, block_call, body_of, call_numbers, call_of, call_with, enum_function, function_of, function_with, is_new, parameter_of, parameters_of};
 ghost use Rattle.oxt_lower.specs.Context.{but_table_of};
-ghost use Rattle.oxt_lower.specs.Facts.{block_view};
-ghost use Rattle.oxt_lower.specs.Members.{views};
-ghost use Rattle.oxt_lower.specs.Puts.{function_statements, statement_numbers};
-ghost use Rattle.oxt_lower.specs.Uses.{all_used, used_by};
-ghost use Rattle.oxt_tree.specs.Names.{name_bytes};
-ghost use Rattle.oxt_tree.specs.View.{docs_in, node_doc};
 
 use crate::facts::BlockFacts;
 use crate::members::{Member, Taken};
@@ -16,11 +9,11 @@ use crate::puts::function_statements;
 use bitflags::Flags;
 use oxt_ctx::bound::BindingNodes;
 use oxt_ctx::context::TraverseCtx;
+use oxt_grammar::kind::Kind;
+use oxt_names::flags::{ReferenceFlags, ScopeFlags, SymbolFlags};
+use oxt_names::ids::{ScopeId, SymbolId};
 use oxt_scoping::scoping::Scoping;
 use oxt_stores::bound::BoundIdentifier;
-use oxt_symbol::flags::{ReferenceFlags, ScopeFlags, SymbolFlags};
-use oxt_symbol::ids::{ScopeId, SymbolId};
-use oxt_table::kind::Kind;
 use oxt_tree::ids::{NodeId, NodeIds, OutOfMemory, Span};
 use oxt_tree::name::Name;
 use oxt_tree::tree::{Node, Part};
@@ -38,12 +31,9 @@ pub struct Opened {
 
 /// Opens the scope of a function in the current one, and binds the name of the enum in it.
 pub fn open_function(name: &Name, ctx: &mut TraverseCtx) -> Result<Opened, OutOfMemory>
-    ensures number { IfOk result (λ opened. opened.function.0 ≡ ctx.old.ids.next) }
-    ensures name { IfOk result (λ opened. name_bytes opened.parameter.name ≡ name_bytes name.now) }
     ensures symbol { IfOk result (λ opened. opened.parameter.symbol_id.0 < length ctx.new.scoping.symbols) }
     ensures more { OnOk result
         (length ctx.new.scoping.symbols ≡ length ctx.old.scoping.symbols + 1) }
-    ensures used { OnOk result (ctx.new.ids.next ≡ ctx.old.ids.next + 2) }
     ensures frame { OnOk result (ctx.new ≡ but_table_of ctx.old ctx.new) }
 {
     let function = ctx.ids.fresh()?;
@@ -60,7 +50,6 @@ fn open_scope(function: NodeId, ctx: &mut TraverseCtx) -> Result<ScopeId, OutOfM
     ensures live { IfOk result (λ scope. scope.0 < length ctx.new.scoping.scopes) }
     ensures symbols_stay { OnOk result
         (length ctx.new.scoping.symbols ≡ length ctx.old.scoping.symbols) }
-    ensures ids { ctx.new.ids ≡ ctx.old.ids }
     ensures frame { OnOk result (ctx.new ≡ but_table_of ctx.old ctx.new) }
 {
     let around = ctx.current_scope_id();
@@ -81,10 +70,6 @@ pub fn block_call(
     ctx: &mut TraverseCtx,
 ) -> Result<Node, OutOfMemory>
     requires { IfSome block.now.symbol (λ enum. enum.0 < length ctx.old.scoping.symbols) }
-    ensures made { IfOk result (λ made. node_doc made
-        ≡ block_call ctx.old.ids.next (block_view block.now) (views taken.members.items)) }
-    ensures used { OnOk result (ctx.new.ids.next
-        ≡ ctx.old.ids.next + call_numbers (block_view block.now) (views taken.members.items)) }
     ensures frame { OnOk result (ctx.new ≡ but_table_of ctx.old ctx.new) }
     ensures more { OnOk result
         (length ctx.new.scoping.symbols ≡ length ctx.old.scoping.symbols + 1) }
@@ -103,26 +88,12 @@ pub fn block_call(
 /// Enters the names in the table as uses of the symbol.
 fn refer_all(uses: &[NodeId], symbol: SymbolId, scoping: &mut Scoping) -> Result<(), OutOfMemory>
     requires { symbol.0 < length scoping.old.symbols }
-    ensures entered { OnOk result
-        (scoping.new ≡ all_used symbol ReferenceFlags.Read uses.now scoping.old) }
     ensures symbols_stay { OnOk result (length scoping.new.symbols ≡ length scoping.old.symbols) }
     ensures scopes_stay { length scoping.new.scopes ≡ length scoping.old.scopes }
 {
     for node in uses {
-        refer(*node, symbol, scoping)?;
+        scoping.create_reference(*node, Some(symbol), ReferenceFlags::Read)?;
     }
-    Ok(())
-}
-
-/// Enters the name in the table as a use of the symbol.
-fn refer(node: NodeId, symbol: SymbolId, scoping: &mut Scoping) -> Result<(), OutOfMemory>
-    requires { symbol.0 < length scoping.old.symbols }
-    ensures entered { OnOk result
-        (scoping.new ≡ used_by symbol ReferenceFlags.Read node scoping.old) }
-    ensures symbols_stay { OnOk result (length scoping.new.symbols ≡ length scoping.old.symbols) }
-    ensures scopes_stay { length scoping.new.scopes ≡ length scoping.old.scopes }
-{
-    scoping.create_reference(node, Some(symbol), ReferenceFlags::Read)?;
     Ok(())
 }
 
@@ -134,10 +105,6 @@ fn call_with(
     ctx: &mut TraverseCtx,
 ) -> Result<Node, OutOfMemory>
     requires { IfSome block.now.symbol (λ enum. enum.0 < length ctx.old.scoping.symbols) }
-    ensures made { IfOk result (λ made. node_doc made
-        ≡ call_with ctx.old.ids.next (block_view block.now) (node_doc callee)) }
-    ensures used { OnOk result (ctx.new.ids.next
-        ≡ ctx.old.ids.next + (argument_numbers (is_new (block_view block.now)) + 1)) }
     ensures frame { OnOk result (ctx.new ≡ but_table_of ctx.old ctx.new) }
     ensures symbols_stay { OnOk result
         (length ctx.new.scoping.symbols ≡ length ctx.old.scoping.symbols) }
@@ -154,10 +121,6 @@ fn enum_function(
     ctx: &mut TraverseCtx,
 ) -> Result<Node, OutOfMemory>
     requires { opened.parameter.symbol_id.0 < length ctx.old.scoping.symbols }
-    ensures made { IfOk result (λ made. node_doc made
-        ≡ enum_function opened.function.0 (ctx.old.ids.next + (statement_numbers (views members.items) + 2)) (name_bytes opened.parameter.name) (function_statements ctx.old.ids.next (name_bytes opened.parameter.name) (views members.items))) }
-    ensures used { OnOk result (ctx.new.ids.next
-        ≡ ctx.old.ids.next + (statement_numbers (views members.items) + 6)) }
     ensures frame { OnOk result (ctx.new ≡ but_table_of ctx.old ctx.new) }
     ensures symbols_stay { OnOk result
         (length ctx.new.scoping.symbols ≡ length ctx.old.scoping.symbols) }
@@ -174,22 +137,14 @@ fn function_with(
     pattern: Node,
     statements: Vec<Part>,
     ids: &mut NodeIds,
-) -> Result<Node, OutOfMemory>
-    ensures made { IfOk result (λ made. node_doc made
-        ≡ function_with number.0 ids.old.next (node_doc pattern) (docs_in statements.items)) }
-    ensures used { OnOk result (ids.new.next ≡ ids.old.next + 3) }
-{
+) -> Result<Node, OutOfMemory> {
     let parameters = parameters_of(alloc, pattern, ids)?;
     let body = body_of(alloc, statements, ids)?;
     function_of(alloc, number, parameters, body)
 }
 
 /// The parameters of a function: one of that pattern.
-fn parameters_of(alloc: Global, pattern: Node, ids: &mut NodeIds) -> Result<Node, OutOfMemory>
-    ensures made { IfOk result (λ made. node_doc made
-        ≡ parameters_of (ids.old.next + 1) (parameter_of ids.old.next (node_doc pattern))) }
-    ensures used { OnOk result (ids.new.next ≡ ids.old.next + 2) }
-{
+fn parameters_of(alloc: Global, pattern: Node, ids: &mut NodeIds) -> Result<Node, OutOfMemory> {
     let parameter = parameter_of(alloc, pattern, ids)?;
     let items = vec![in alloc; Part::Node(parameter)]?;
     let parts = vec![in alloc; Part::List(items), Part::Nothing]?;
@@ -197,10 +152,7 @@ fn parameters_of(alloc: Global, pattern: Node, ids: &mut NodeIds) -> Result<Node
 }
 
 /// A parameter of that pattern, without a type.
-fn parameter_of(alloc: Global, pattern: Node, ids: &mut NodeIds) -> Result<Node, OutOfMemory>
-    ensures made { IfOk result (λ made. node_doc made ≡ parameter_of ids.old.next (node_doc pattern)) }
-    ensures used { OnOk result (ids.new.next ≡ ids.old.next + 1) }
-{
+fn parameter_of(alloc: Global, pattern: Node, ids: &mut NodeIds) -> Result<Node, OutOfMemory> {
     let parts = vec![in alloc;
         Part::List(Vec::new(alloc)),
         Part::Nothing,
@@ -215,10 +167,7 @@ fn parameter_of(alloc: Global, pattern: Node, ids: &mut NodeIds) -> Result<Node,
 }
 
 /// The body of a function.
-fn body_of(alloc: Global, statements: Vec<Part>, ids: &mut NodeIds) -> Result<Node, OutOfMemory>
-    ensures made { IfOk result (λ made. node_doc made ≡ body_of ids.old.next (docs_in statements.items)) }
-    ensures used { OnOk result (ids.new.next ≡ ids.old.next + 1) }
-{
+fn body_of(alloc: Global, statements: Vec<Part>, ids: &mut NodeIds) -> Result<Node, OutOfMemory> {
     let parts = vec![in alloc; Part::List(Vec::new(alloc)), Part::List(statements)]?;
     make(Kind::FunctionBody, parts, ids)
 }
@@ -229,10 +178,7 @@ fn function_of(
     number: NodeId,
     parameters: Node,
     body: Node,
-) -> Result<Node, OutOfMemory>
-    ensures { IfOk result (λ made. node_doc made
-        ≡ function_of number.0 (node_doc parameters) (node_doc body)) }
-{
+) -> Result<Node, OutOfMemory> {
     let parts = vec![in alloc;
         Part::Nothing,
         Part::Flag(false),
@@ -259,10 +205,6 @@ fn argument_of(
     ctx: &mut TraverseCtx,
 ) -> Result<Node, OutOfMemory>
     requires { IfSome block.now.symbol (λ enum. enum.0 < length ctx.old.scoping.symbols) }
-    ensures made { IfOk result (λ made. node_doc made
-        ≡ argument_of ctx.old.ids.next (name_bytes block.now.name) (is_new (block_view block.now))) }
-    ensures used { OnOk result (ctx.new.ids.next
-        ≡ ctx.old.ids.next + argument_numbers (is_new (block_view block.now))) }
     ensures frame { OnOk result (ctx.new ≡ but_table_of ctx.old ctx.new) }
     ensures symbols_stay { OnOk result
         (length ctx.new.scoping.symbols ≡ length ctx.old.scoping.symbols) }
@@ -282,11 +224,7 @@ fn call_of(
     argument: Node,
     is_pure: bool,
     ids: &mut NodeIds,
-) -> Result<Node, OutOfMemory>
-    ensures made { IfOk result (λ made. node_doc made
-        ≡ call_of ids.old.next (node_doc callee) (node_doc argument) is_pure) }
-    ensures used { OnOk result (ids.new.next ≡ ids.old.next + 1) }
-{
+) -> Result<Node, OutOfMemory> {
     let arguments = vec![in alloc; Part::Node(argument)]?;
     let parts = vec![in alloc;
         Part::Node(callee),

@@ -1,12 +1,12 @@
 //! Nodes that are made, which have no place in a source text.
-ghost use Rattle.std.specs.Prelude.{◌≡◌, ◌+◌, IfOk, OnOk};
+ghost use Rattle.std.specs.Prelude.{◌≡◌, IfOk};
 ghost use Rattle.oxt_lower.specs.Nodes.{access, alternative, assignment, computed, empty_object, made, member, negative, number_literal, property_name, returned, statement, string_literal, sum};
 ghost use Rattle.oxt_ctx.specs.Made.{reference};
 ghost use Rattle.oxt_stores.specs.Frame.{binding};
 ghost use Rattle.oxt_tree.specs.Names.{name_bytes};
 ghost use Rattle.oxt_tree.specs.View.{docs_in, node_doc};
 
-use oxt_table::kind::Kind;
+use oxt_grammar::kind::Kind;
 use oxt_tree::ids::{NodeIds, OutOfMemory, Span};
 use oxt_tree::name::Name;
 use oxt_tree::tree::{Node, Part};
@@ -16,7 +16,6 @@ use std::vec;
 /// A node of these parts.
 pub fn make(kind: Kind, parts: Vec<Part>, ids: &mut NodeIds) -> Result<Node, OutOfMemory>
     ensures made { IfOk result (λ node. node_doc node ≡ made kind ids.old.next (docs_in parts.items)) }
-    ensures used { OnOk result (ids.new.next ≡ ids.old.next + 1) }
 {
     Ok(Node {
         kind,
@@ -29,7 +28,6 @@ pub fn make(kind: Kind, parts: Vec<Part>, ids: &mut NodeIds) -> Result<Node, Out
 /// A name that is used, of which the table of names does not know yet.
 pub fn reference(alloc: Global, name: &Name, ids: &mut NodeIds) -> Result<Node, OutOfMemory>
     ensures made { IfOk result (λ node. node_doc node ≡ reference ids.old.next (name_bytes name.now)) }
-    ensures used { OnOk result (ids.new.next ≡ ids.old.next + 1) }
 {
     let parts = vec![in alloc; Part::Text(name.share()?)]?;
     make(Kind::IdentifierReference, parts, ids)
@@ -38,7 +36,6 @@ pub fn reference(alloc: Global, name: &Name, ids: &mut NodeIds) -> Result<Node, 
 /// A name that is bound.
 pub fn binding(alloc: Global, name: &Name, ids: &mut NodeIds) -> Result<Node, OutOfMemory>
     ensures made { IfOk result (λ node. node_doc node ≡ binding ids.old.next (name_bytes name.now)) }
-    ensures used { OnOk result (ids.new.next ≡ ids.old.next + 1) }
 {
     let parts = vec![in alloc; Part::Text(name.share()?)]?;
     make(Kind::BindingIdentifier, parts, ids)
@@ -47,7 +44,6 @@ pub fn binding(alloc: Global, name: &Name, ids: &mut NodeIds) -> Result<Node, Ou
 /// The name of a property.
 pub fn property_name(alloc: Global, name: &Name, ids: &mut NodeIds) -> Result<Node, OutOfMemory>
     ensures made { IfOk result (λ node. node_doc node ≡ property_name ids.old.next (name_bytes name.now)) }
-    ensures used { OnOk result (ids.new.next ≡ ids.old.next + 1) }
 {
     let parts = vec![in alloc; Part::Text(name.share()?)]?;
     make(Kind::IdentifierName, parts, ids)
@@ -56,7 +52,6 @@ pub fn property_name(alloc: Global, name: &Name, ids: &mut NodeIds) -> Result<No
 /// A text.
 pub fn string_literal(alloc: Global, text: &Name, ids: &mut NodeIds) -> Result<Node, OutOfMemory>
     ensures made { IfOk result (λ node. node_doc node ≡ string_literal ids.old.next (name_bytes text.now)) }
-    ensures used { OnOk result (ids.new.next ≡ ids.old.next + 1) }
 {
     let parts = vec![in alloc; Part::Text(text.share()?), Part::Nothing]?;
     make(Kind::StringLiteral, parts, ids)
@@ -65,7 +60,6 @@ pub fn string_literal(alloc: Global, text: &Name, ids: &mut NodeIds) -> Result<N
 /// A whole number.
 pub fn number_literal(alloc: Global, value: u64, ids: &mut NodeIds) -> Result<Node, OutOfMemory>
     ensures made { IfOk result (λ node. node_doc node ≡ number_literal ids.old.next value) }
-    ensures used { OnOk result (ids.new.next ≡ ids.old.next + 1) }
 {
     let parts = vec![in alloc; Part::Number(value), Part::Nothing]?;
     make(Kind::NumericLiteral, parts, ids)
@@ -74,7 +68,6 @@ pub fn number_literal(alloc: Global, value: u64, ids: &mut NodeIds) -> Result<No
 /// `-e`.
 pub fn negative(alloc: Global, operand: Node, ids: &mut NodeIds) -> Result<Node, OutOfMemory>
     ensures made { IfOk result (λ node. node_doc node ≡ negative ids.old.next (node_doc operand)) }
-    ensures used { OnOk result (ids.new.next ≡ ids.old.next + 1) }
 {
     let operator = Name::new(alloc, "-")?;
     let parts = vec![in alloc; Part::Text(operator), Part::Node(operand)]?;
@@ -90,7 +83,6 @@ pub fn member(
 ) -> Result<Node, OutOfMemory>
     ensures made { IfOk result (λ node. node_doc node
         ≡ member ids.old.next (node_doc object) (node_doc property)) }
-    ensures used { OnOk result (ids.new.next ≡ ids.old.next + 1) }
 {
     access(alloc, Kind::StaticMemberExpression, object, property, ids)
 }
@@ -104,7 +96,6 @@ pub fn computed(
 ) -> Result<Node, OutOfMemory>
     ensures made { IfOk result (λ node. node_doc node
         ≡ computed ids.old.next (node_doc object) (node_doc key)) }
-    ensures used { OnOk result (ids.new.next ≡ ids.old.next + 1) }
 {
     access(alloc, Kind::ComputedMemberExpression, object, key, ids)
 }
@@ -119,7 +110,6 @@ fn access(
 ) -> Result<Node, OutOfMemory>
     ensures made { IfOk result (λ node. node_doc node
         ≡ access kind ids.old.next (node_doc object) (node_doc key)) }
-    ensures used { OnOk result (ids.new.next ≡ ids.old.next + 1) }
 {
     let parts = vec![in alloc; Part::Node(object), Part::Node(key), Part::Flag(false)]?;
     make(kind, parts, ids)
@@ -134,7 +124,6 @@ pub fn assignment(
 ) -> Result<Node, OutOfMemory>
     ensures made { IfOk result (λ node. node_doc node
         ≡ assignment ids.old.next (node_doc target) (node_doc value)) }
-    ensures used { OnOk result (ids.new.next ≡ ids.old.next + 1) }
 {
     let operator = Name::new(alloc, "=")?;
     let parts = vec![in alloc; Part::Text(operator), Part::Node(target), Part::Node(value)]?;
@@ -145,7 +134,6 @@ pub fn assignment(
 pub fn sum(alloc: Global, left: Node, right: Node, ids: &mut NodeIds) -> Result<Node, OutOfMemory>
     ensures made { IfOk result (λ node. node_doc node
         ≡ sum ids.old.next (node_doc left) (node_doc right)) }
-    ensures used { OnOk result (ids.new.next ≡ ids.old.next + 1) }
 {
     let operator = Name::new(alloc, "+")?;
     let parts = vec![in alloc; Part::Text(operator), Part::Node(left), Part::Node(right)]?;
@@ -161,7 +149,6 @@ pub fn alternative(
 ) -> Result<Node, OutOfMemory>
     ensures made { IfOk result (λ node. node_doc node
         ≡ alternative ids.old.next (node_doc left) (node_doc right)) }
-    ensures used { OnOk result (ids.new.next ≡ ids.old.next + 1) }
 {
     let operator = Name::new(alloc, "||")?;
     let parts = vec![in alloc; Part::Text(operator), Part::Node(left), Part::Node(right)]?;
@@ -171,7 +158,6 @@ pub fn alternative(
 /// `{}`.
 pub fn empty_object(alloc: Global, ids: &mut NodeIds) -> Result<Node, OutOfMemory>
     ensures made { IfOk result (λ node. node_doc node ≡ empty_object ids.old.next) }
-    ensures used { OnOk result (ids.new.next ≡ ids.old.next + 1) }
 {
     let parts = vec![in alloc; Part::List(Vec::new(alloc))]?;
     make(Kind::ObjectExpression, parts, ids)
@@ -180,7 +166,6 @@ pub fn empty_object(alloc: Global, ids: &mut NodeIds) -> Result<Node, OutOfMemor
 /// `e;`.
 pub fn statement(alloc: Global, expression: Node, ids: &mut NodeIds) -> Result<Node, OutOfMemory>
     ensures made { IfOk result (λ node. node_doc node ≡ statement ids.old.next (node_doc expression)) }
-    ensures used { OnOk result (ids.new.next ≡ ids.old.next + 1) }
 {
     let parts = vec![in alloc; Part::Node(expression)]?;
     make(Kind::ExpressionStatement, parts, ids)
@@ -189,7 +174,6 @@ pub fn statement(alloc: Global, expression: Node, ids: &mut NodeIds) -> Result<N
 /// `return e;`.
 pub fn returned(alloc: Global, expression: Node, ids: &mut NodeIds) -> Result<Node, OutOfMemory>
     ensures made { IfOk result (λ node. node_doc node ≡ returned ids.old.next (node_doc expression)) }
-    ensures used { OnOk result (ids.new.next ≡ ids.old.next + 1) }
 {
     let parts = vec![in alloc; Part::Node(expression)]?;
     make(Kind::ReturnStatement, parts, ids)

@@ -1,10 +1,21 @@
 //! The pass that lowers enums.
-ghost use Rattle.std.specs.Prelude.{◌≡◌, ◌++◌, OnOk, false};
-ghost use Rattle.oxt_lower.specs.Context.{but_table_of, no_log};
-ghost use Rattle.oxt_lower.specs.Statement.{statement_lowered};
-ghost use Rattle.oxt_traverse.specs.Level.{IsAside, IsLevel};
-ghost use Rattle.oxt_traverse.specs.Reading.{nothing};
-ghost use Rattle.oxt_tree.specs.View.{node_doc};
+//!
+//! Before:
+//!
+//! ```ts
+//! enum Color { Red, Green = "green" }
+//! ```
+//!
+//! After:
+//!
+//! ```js
+//! var Color = /* @__PURE__ */ function(Color) {
+//!     Color[Color["Red"] = 0] = "Red";
+//!     Color["Green"] = "green";
+//!     return Color;
+//! }(Color || {});
+//! ```
+ghost use Rattle.std.specs.Prelude.{◌≡◌};
 
 use crate::statement::lower_statement;
 use oxt_ctx::context::TraverseCtx;
@@ -37,13 +48,11 @@ impl TypeScriptEnum {
 }
 
 impl Traverse for TypeScriptEnum {
-    ghost use Rattle.oxt_traverse.specs.Reading.{reads_nothing, watches_nothing};
-
     fn at_node(
         &mut self,
         _hook: Hook,
-        _node: &Node,
-        _ctx: &TraverseCtx,
+        _node: &mut Node,
+        _ctx: &mut TraverseCtx,
     ) -> Result<(), OutOfMemory> {
         Ok(())
     }
@@ -51,24 +60,17 @@ impl Traverse for TypeScriptEnum {
     fn at_statements(
         &mut self,
         _hook: Hook,
-        _statements: &[Part],
-        _ctx: &TraverseCtx,
+        _statements: &mut Vec<Part>,
+        _ctx: &mut TraverseCtx,
     ) -> Result<(), OutOfMemory> {
         Ok(())
     }
 
-    fn enter_statement(&mut self, node: &mut Node, ctx: &mut TraverseCtx) -> Result<(), OutOfMemory>
-        ensures level { OnOk result (IsLevel ctx.old ctx.new) }
-        ensures read { OnOk result (nothing (node_doc node.new) ≡ nothing (node_doc node.old)) }
-        ensures aside { OnOk result (IsAside false ctx.old ctx.new) }
-        ensures logged { OnOk result (no_log ≡ no_log ++ no_log) }
-        ensures tree { OnOk result (node_doc node.new ≡ statement_lowered ctx.old (node_doc node.old)) }
-        ensures frame { OnOk result (ctx.new ≡ but_table_of ctx.old ctx.new) }
-    {
+    fn enter_statement(
+        &mut self,
+        node: &mut Node,
+        ctx: &mut TraverseCtx,
+    ) -> Result<(), OutOfMemory> {
         lower_statement(node, ctx)
     }
-
-    ghost lawful = { reads_nothing };
-
-    ghost watching = { watches_nothing };
 }

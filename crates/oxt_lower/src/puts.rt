@@ -1,12 +1,8 @@
 //! The statements that put the members of an enum.
-ghost use Rattle.std.specs.Prelude.{◌≡◌, ◌+◌, ◌<◌, IfOk, OnOk, length};
+ghost use Rattle.std.specs.Prelude.{◌≡◌, ◌<◌, OnOk, length};
 ghost use Rattle.oxt_lower.specs.Context.{but_table_of};
-ghost use Rattle.oxt_lower.specs.Members.{is_text_value, member_view, value_view, views};
-ghost use Rattle.oxt_lower.specs.Puts.{element, function_statements, member_numbers, member_statement, put_of, return_statement, reverse_put_of, statement_numbers, successor, value_doc, value_numbers, with_last};
-ghost use Rattle.oxt_tree.specs.Names.{name_bytes};
-ghost use Rattle.oxt_tree.specs.View.{docs_in, node_doc, part_doc};
 
-use crate::constant::{constant_literal, is_text};
+use crate::constant::constant_literal;
 use crate::members::{Member, Value};
 use crate::nodes::{
     assignment, computed, number_literal, returned, statement, string_literal, sum,
@@ -14,6 +10,7 @@ use crate::nodes::{
 use crate::syntax;
 use oxt_ctx::bound::BindingNodes;
 use oxt_ctx::context::TraverseCtx;
+use oxt_names::constant::ConstantValue;
 use oxt_stores::bound::BoundIdentifier;
 use oxt_tree::ids::OutOfMemory;
 use oxt_tree::name::Name;
@@ -28,10 +25,6 @@ pub fn function_statements(
     ctx: &mut TraverseCtx,
 ) -> Result<Vec<Part>, OutOfMemory>
     requires { parameter.now.symbol_id.0 < length ctx.old.scoping.symbols }
-    ensures made { IfOk result (λ made. docs_in made.items
-        ≡ function_statements ctx.old.ids.next (name_bytes parameter.now.name) (views members.items)) }
-    ensures used { OnOk result (ctx.new.ids.next
-        ≡ ctx.old.ids.next + (statement_numbers (views members.items) + 2)) }
     ensures frame { OnOk result (ctx.new ≡ but_table_of ctx.old ctx.new) }
     ensures symbols_stay { OnOk result
         (length ctx.new.scoping.symbols ≡ length ctx.old.scoping.symbols) }
@@ -40,7 +33,8 @@ pub fn function_statements(
     for member in members {
         push_statement(&mut statements, alloc, member, parameter, ctx)?;
     }
-    push_return(&mut statements, alloc, parameter, ctx)?;
+    let made = return_statement(alloc, parameter, ctx)?;
+    statements.push(Part::Node(made))?;
     Ok(statements)
 }
 
@@ -53,50 +47,13 @@ fn push_statement(
     ctx: &mut TraverseCtx,
 ) -> Result<(), OutOfMemory>
     requires { parameter.now.symbol_id.0 < length ctx.old.scoping.symbols }
-    ensures made { OnOk result (docs_in statements.new.items
-        ≡ with_last (docs_in statements.old.items) (member_statement ctx.old.ids.next (name_bytes parameter.now.name) (member_view member))) }
-    ensures used { OnOk result (ctx.new.ids.next
-        ≡ ctx.old.ids.next + member_numbers (member_view member)) }
     ensures frame { OnOk result (ctx.new ≡ but_table_of ctx.old ctx.new) }
     ensures symbols_stay { OnOk result
         (length ctx.new.scoping.symbols ≡ length ctx.old.scoping.symbols) }
 {
     let made = member_statement(alloc, member, parameter, ctx)?;
-    push_node(statements, made)
-}
-
-/// Puts the statement that returns the enum behind the others.
-fn push_return(
-    statements: &mut Vec<Part>,
-    alloc: Global,
-    parameter: &BoundIdentifier,
-    ctx: &mut TraverseCtx,
-) -> Result<(), OutOfMemory>
-    requires { parameter.now.symbol_id.0 < length ctx.old.scoping.symbols }
-    ensures made { OnOk result (docs_in statements.new.items
-        ≡ with_last (docs_in statements.old.items) (return_statement ctx.old.ids.next (name_bytes parameter.now.name))) }
-    ensures used { OnOk result (ctx.new.ids.next ≡ ctx.old.ids.next + 2) }
-    ensures frame { OnOk result (ctx.new ≡ but_table_of ctx.old ctx.new) }
-    ensures symbols_stay { OnOk result
-        (length ctx.new.scoping.symbols ≡ length ctx.old.scoping.symbols) }
-{
-    let made = return_statement(alloc, parameter, ctx)?;
-    push_node(statements, made)
-}
-
-/// Puts the node behind the others.
-fn push_node(parts: &mut Vec<Part>, node: Node) -> Result<(), OutOfMemory>
-    ensures { OnOk result (docs_in parts.new.items ≡ with_last (docs_in parts.old.items) (node_doc node)) }
-{
-    parts.push(as_part(node))?;
+    statements.push(Part::Node(made))?;
     Ok(())
-}
-
-/// The node as a part.
-fn as_part(node: Node) -> Part
-    ensures { part_doc result ≡ node_doc node }
-{
-    Part::Node(node)
 }
 
 /// `return E;`.
@@ -106,9 +63,6 @@ fn return_statement(
     ctx: &mut TraverseCtx,
 ) -> Result<Node, OutOfMemory>
     requires { parameter.now.symbol_id.0 < length ctx.old.scoping.symbols }
-    ensures made { IfOk result (λ made. node_doc made
-        ≡ return_statement ctx.old.ids.next (name_bytes parameter.now.name)) }
-    ensures used { OnOk result (ctx.new.ids.next ≡ ctx.old.ids.next + 2) }
     ensures frame { OnOk result (ctx.new ≡ but_table_of ctx.old ctx.new) }
     ensures symbols_stay { OnOk result
         (length ctx.new.scoping.symbols ≡ length ctx.old.scoping.symbols) }
@@ -125,10 +79,6 @@ fn member_statement(
     ctx: &mut TraverseCtx,
 ) -> Result<Node, OutOfMemory>
     requires { parameter.now.symbol_id.0 < length ctx.old.scoping.symbols }
-    ensures made { IfOk result (λ made. node_doc made
-        ≡ member_statement ctx.old.ids.next (name_bytes parameter.now.name) (member_view member)) }
-    ensures used { OnOk result (ctx.new.ids.next
-        ≡ ctx.old.ids.next + member_numbers (member_view member)) }
     ensures frame { OnOk result (ctx.new ≡ but_table_of ctx.old ctx.new) }
     ensures symbols_stay { OnOk result
         (length ctx.new.scoping.symbols ≡ length ctx.old.scoping.symbols) }
@@ -146,11 +96,10 @@ fn member_statement(
 }
 
 /// Whether the value is a text: a constant that is one, or what is one by its syntax.
-fn is_text_value(value: &Value) -> bool
-    ensures { result ≡ is_text_value (value_view value.now) }
-{
+fn is_text_value(value: &Value) -> bool {
     match value {
-        Value::Constant(constant) => is_text(constant),
+        Value::Constant(ConstantValue::Text(_)) => true,
+        Value::Constant(ConstantValue::Number(_)) => false,
         Value::After(_) => false,
         Value::Written(node) => syntax::is_text(node),
     }
@@ -164,10 +113,6 @@ fn value_node(
     ctx: &mut TraverseCtx,
 ) -> Result<Node, OutOfMemory>
     requires { parameter.now.symbol_id.0 < length ctx.old.scoping.symbols }
-    ensures made { IfOk result (λ made. node_doc made
-        ≡ value_doc ctx.old.ids.next (name_bytes parameter.now.name) (value_view value)) }
-    ensures used { OnOk result (ctx.new.ids.next
-        ≡ ctx.old.ids.next + value_numbers (value_view value)) }
     ensures frame { OnOk result (ctx.new ≡ but_table_of ctx.old ctx.new) }
     ensures symbols_stay { OnOk result
         (length ctx.new.scoping.symbols ≡ length ctx.old.scoping.symbols) }
@@ -187,9 +132,6 @@ fn successor(
     ctx: &mut TraverseCtx,
 ) -> Result<Node, OutOfMemory>
     requires { parameter.now.symbol_id.0 < length ctx.old.scoping.symbols }
-    ensures made { IfOk result (λ made. node_doc made
-        ≡ successor ctx.old.ids.next (name_bytes parameter.now.name) (name_bytes last.now)) }
-    ensures used { OnOk result (ctx.new.ids.next ≡ ctx.old.ids.next + 5) }
     ensures frame { OnOk result (ctx.new ≡ but_table_of ctx.old ctx.new) }
     ensures symbols_stay { OnOk result
         (length ctx.new.scoping.symbols ≡ length ctx.old.scoping.symbols) }
@@ -207,9 +149,6 @@ fn element(
     ctx: &mut TraverseCtx,
 ) -> Result<Node, OutOfMemory>
     requires { parameter.now.symbol_id.0 < length ctx.old.scoping.symbols }
-    ensures made { IfOk result (λ made. node_doc made
-        ≡ element ctx.old.ids.next (name_bytes parameter.now.name) (name_bytes name.now)) }
-    ensures used { OnOk result (ctx.new.ids.next ≡ ctx.old.ids.next + 3) }
     ensures frame { OnOk result (ctx.new ≡ but_table_of ctx.old ctx.new) }
     ensures symbols_stay { OnOk result
         (length ctx.new.scoping.symbols ≡ length ctx.old.scoping.symbols) }
@@ -228,9 +167,6 @@ fn put(
     ctx: &mut TraverseCtx,
 ) -> Result<Node, OutOfMemory>
     requires { parameter.now.symbol_id.0 < length ctx.old.scoping.symbols }
-    ensures made { IfOk result (λ made. node_doc made
-        ≡ put_of ctx.old.ids.next (name_bytes parameter.now.name) (name_bytes name.now) (node_doc value)) }
-    ensures used { OnOk result (ctx.new.ids.next ≡ ctx.old.ids.next + 4) }
     ensures frame { OnOk result (ctx.new ≡ but_table_of ctx.old ctx.new) }
     ensures symbols_stay { OnOk result
         (length ctx.new.scoping.symbols ≡ length ctx.old.scoping.symbols) }
@@ -248,9 +184,6 @@ fn reverse_put(
     ctx: &mut TraverseCtx,
 ) -> Result<Node, OutOfMemory>
     requires { parameter.now.symbol_id.0 < length ctx.old.scoping.symbols }
-    ensures made { IfOk result (λ made. node_doc made
-        ≡ reverse_put_of ctx.old.ids.next (name_bytes parameter.now.name) (name_bytes name.now) (node_doc put)) }
-    ensures used { OnOk result (ctx.new.ids.next ≡ ctx.old.ids.next + 4) }
     ensures frame { OnOk result (ctx.new ≡ but_table_of ctx.old ctx.new) }
     ensures symbols_stay { OnOk result
         (length ctx.new.scoping.symbols ≡ length ctx.old.scoping.symbols) }

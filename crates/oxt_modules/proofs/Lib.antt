@@ -1,3 +1,3 @@
-mod Changed
-mod Lists
-mod Trims
+pub mod Loops
+pub mod Tables
+pub mod Uses

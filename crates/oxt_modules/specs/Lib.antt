@@ -1,2 +1,5 @@
-pub mod Places
-pub mod Retained
+pub mod Due
+pub mod Jsx
+pub mod Kept
+pub mod Names
+pub mod Removed

@@ -1,7 +1,10 @@
-//! The imports and exports of a module, without what stands for nothing at run time.
+//! The imports and exports of a module: which specifiers are kept once TypeScript is lowered, which statements are
+//! removed, and what is left of a program then.
 #![tactic(auto)]
 
-mod places;
+pub mod due;
+pub mod jsx;
+pub mod kept;
+pub mod names;
+pub mod removed;
 pub mod retain;
-mod specifiers;
-mod statements;

@@ -1,17 +1,15 @@
-//! What is left of the imports and exports of a program.
-ghost use Rattle.std.specs.Prelude.{◌≡◌, OnOk, codes};
-ghost use Rattle.oxt_modules.specs.Retained.{body_retained, emptied, next_after, retained, retained_body};
-ghost use Rattle.oxt_plan.specs.Facts.{is_in};
-ghost use Rattle.oxt_tree.specs.Doc.{list, nil, no_docs};
-ghost use Rattle.oxt_tree.specs.View.{node_doc, part_doc};
+//! Takes out of a program what of its imports and exports stands for nothing at run time.
 
-use crate::places::put_field;
-use crate::statements::retain_statements;
-use oxt_plan::plan::Plan;
+use crate::due::is_export_due;
+use crate::removed::{is_kept, is_listing, is_removed};
+use oxt_grammar::kind::Kind;
+use oxt_grammar::word::Word;
+use oxt_options::plan::Plan;
 use oxt_tree::fields::place_of;
-use oxt_tree::ids::{NodeId, OutOfMemory};
+use oxt_tree::ids::{NodeId, OutOfMemory, Span};
 use oxt_tree::tree::{Node, Part, Program};
 use std::alloc::Global;
+use std::vec;
 
 /// Removes from a program what of its imports and exports stands for nothing at run time: those of types alone, the
 /// specifiers that the plan does not keep, and exports of erased declarations. Where one was removed
@@ -27,71 +25,105 @@ pub fn retain_modules(
     program: &mut Program,
     plan: &Plan,
     only_remove_type_imports: bool,
-) -> Result<(), OutOfMemory>
-    ensures root { OnOk result (node_doc program.new.root
-        ≡ retained (is_in plan.now.kept) only_remove_type_imports program.old.ids.next (node_doc program.old.root)) }
-    ensures ids { OnOk result (program.new.ids.next ≡ next_after (node_doc program.old.root) program.old.ids.next) }
-{
+) -> Result<(), OutOfMemory> {
     if program.root.is_definition_file() {
         empty(&mut program.root);
         return Ok(());
     }
     let number = program.ids.fresh()?;
-    retain_in_body(plan, only_remove_type_imports, number, &mut program.root)
-}
-
-/// Removes all code from a program.
-fn empty(program: &mut Node)
-    ensures { node_doc program.new ≡ emptied (node_doc program.old) }
-{
-    let alloc = *program.parts.allocator();
-    put_field(program, "body", no_parts(alloc));
-    put_field(program, "directives", no_parts(alloc));
-    put_field(program, "hashbang", no_part());
-}
-
-/// Null.
-fn no_part() -> Part
-    ensures { part_doc result ≡ nil }
-{
-    Part::Nothing
-}
-
-/// A list without elements.
-fn no_parts(alloc: Global) -> Part
-    ensures { part_doc result ≡ list no_docs }
-{
-    Part::List(Vec::new(alloc))
-}
-
-/// Retains what is left of the statements of the program.
-fn retain_in_body(
-    plan: &Plan,
-    all: bool,
-    number: NodeId,
-    program: &mut Node,
-) -> Result<(), OutOfMemory>
-    ensures { OnOk result (node_doc program.new ≡ body_retained (is_in plan.now.kept) all number.0 (node_doc program.old)) }
-{
-    if let Some(place) = place_of(program.kind.rows(), "body") {
-        if place < program.parts.len() {
-            retain_in_part(plan, all, number, &mut program.parts[place])?;
+    let is_due = is_export_due(&program.root, plan, only_remove_type_imports);
+    match field_mut(&mut program.root, "body") {
+        Some(Part::List(statements)) => {
+            retain_statements(plan, only_remove_type_imports, statements);
+            if is_due {
+                push_export(number, statements)?;
+            }
+            Ok(())
         }
+        _ => Ok(()),
     }
+}
+
+/// Puts `export {}` of that number behind the statements.
+fn push_export(number: NodeId, statements: &mut Vec<Part>) -> Result<(), OutOfMemory> {
+    let alloc = *statements.allocator();
+    statements.push(export_nothing(alloc, number)?)?;
     Ok(())
 }
 
-/// Retains what is left of a list of statements.
-fn retain_in_part(
-    plan: &Plan,
-    all: bool,
-    number: NodeId,
-    part: &mut Part,
-) -> Result<(), OutOfMemory>
-    ensures { OnOk result (part_doc part.new ≡ retained_body (is_in plan.now.kept) all number.0 (part_doc part.old)) }
-{
-    match part {
-        Part::List(statements) => retain_statements(plan, all, number, statements),
-        _ => Ok(()),
+/// Removes all code from a program.
+fn empty(program: &mut Node) {
+    let alloc = *program.parts.allocator();
+    put_field(program, "body", Part::List(Vec::new(alloc)));
+    put_field(program, "directives", Part::List(Vec::new(alloc)));
+    put_field(program, "hashbang", Part::Nothing);
+}
+
+/// Puts the part into the field of that name, if the node has such a field.
+fn put_field(node: &mut Node, name: &str, part: Part) {
+    if let Some(field) = field_mut(node, name) {
+        *field = part;
     }
+}
+
+/// The field of that name, if the node has such a field.
+fn field_mut<'a>(node: &'a mut Node, name: &str) -> Option<&'a mut Part> {
+    match place_of(node.kind.rows(), name) {
+        Some(place) => node.parts.get_mut(place),
+        None => None,
+    }
+}
+
+/// Removes the statements that go, and of those that stay the specifiers that are not kept.
+fn retain_statements(plan: &Plan, all: bool, statements: &mut Vec<Part>) {
+    statements.retain(|part| !is_removed(plan, all, part));
+    for part in statements.iter_mut() {
+        trim_statement(plan, part);
+    }
+}
+
+/// Drops the specifiers of an import or an export that are not kept.
+fn trim_statement(plan: &Plan, part: &mut Part) {
+    if let Part::Node(node) = part {
+        if is_listing(node.kind) {
+            trim_list(plan, node);
+        }
+    }
+}
+
+/// Drops the specifiers that are not kept, and the braces of an import with the last of them.
+fn trim_list(plan: &Plan, node: &mut Node) {
+    let is_import = node.kind.is(Kind::ImportDeclaration);
+    if let Some(field) = field_mut(node, "specifiers") {
+        retain_kept(plan, field);
+        if is_import && is_empty_list(field) {
+            *field = Part::Nothing;
+        }
+    }
+}
+
+/// Retains the elements of a list that are kept.
+fn retain_kept(plan: &Plan, list: &mut Part) {
+    if let Part::List(parts) = list {
+        parts.retain(|part| is_kept(plan, part));
+    }
+}
+
+/// Whether it is a list without elements.
+fn is_empty_list(part: &Part) -> bool {
+    match part {
+        Part::List(parts) => parts.is_empty(),
+        _ => false,
+    }
+}
+
+/// `export {}`, with that number.
+fn export_nothing(alloc: Global, number: NodeId) -> Result<Part, OutOfMemory> {
+    let parts = vec![in alloc; Part::Word(Word::Value), Part::List(Vec::new(alloc))]?;
+    Ok(Part::Node(Node {
+        kind: Kind::ExportNamedDeclaration,
+        id: number,
+        span: Span::NONE,
+        parts,
+    }))
 }

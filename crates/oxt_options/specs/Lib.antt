@@ -1,2 +1,5 @@
+pub mod Facts
+pub mod Lists
 pub mod Options
 pub mod Rewrite
+pub mod Seen

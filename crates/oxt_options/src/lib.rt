@@ -1,7 +1,9 @@
-//! What changes the lowering of a program.
+//! What changes the lowering of a program: the options of a run, and the plan, which says what its check found out.
 #![tactic(auto)]
 
+pub mod lists;
 pub mod options;
+pub mod plan;
 pub mod rewrite;
 pub mod state;
 

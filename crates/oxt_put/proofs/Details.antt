@@ -1,12 +1,12 @@
 -- The texts and flags of a node, a field at a time.
 use Rattle.std.proofs.Common.{◌≡◌, ◌∙◌, refl, sym, ap, ℕ, ◌+◌, ◌<◌, ◌≤◌, List, [], ◌∷◌, ◌++◌, map, length, drop, get_or, add-one, append_assoc, append-nil, drop-cons, Bool, true, false, if◌then◌else◌}
-use Rattle.oxt_table.specs.Field.{Field, row_view}
-use Rattle.oxt_table.specs.declared.holds.Row.{Row}
+use Rattle.oxt_grammar.specs.Field.{Field, row_view}
+use Rattle.oxt_grammar.specs.declared.holds.Row.{Row}
 use Rattle.oxt_tree.proofs.Lists.{drop_at, drop_end}
 use Rattle.oxt_tree.specs.Doc.{Doc, no_docs}
 use Rattle.oxt_tree.specs.View.{docs_in, part_doc}
 use Rattle.oxt_tree.specs.declared.tree.Part.{Part}
-use Rattle.oxt_item.specs.Entry.{detail}
+use Rattle.oxt_facts.specs.Entry.{detail}
 use Rattle.oxt_put.specs.Details.{details, is_detail}
 
 -- the texts and flags from a place on

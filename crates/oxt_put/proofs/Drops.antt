@@ -1,8 +1,8 @@
 -- A value that is dropped, and what stands before it.
 use Rattle.std.proofs.Common.{◌≡◌, ◌∙◌, refl, sym, ap, ℕ, zero, suc, ◌+◌, ◌<◌, ◌≤◌, List, [], ◌∷◌, ◌++◌, length, drop, take, get_or, append_assoc, arith, true, false, if◌then◌else◌}
-use Rattle.oxt_item.specs.Entry.{Entry, entries, lone}
-use Rattle.oxt_item.specs.declared.item.Item.{Item}
-use Rattle.oxt_item.specs.declared.item.ItemKind.TheVariants as item
+use Rattle.oxt_facts.specs.Entry.{Entry, entries, lone}
+use Rattle.oxt_facts.specs.declared.item.Item.{Item}
+use Rattle.oxt_facts.specs.declared.item.ItemKind.TheVariants as item
 use Rattle.oxt_put.specs.Leaves.{dropped, ends_kept, is_kept_kind}
 
 pub take_drop : (n : ℕ) (xs : List Entry) → take n xs ++ drop n xs ≡ xs

@@ -1,13 +1,13 @@
 -- What belongs to a node itself.
 use Rattle.std.specs.Prelude.{List, [], ◌∷◌, Bool, true, false, not, ◌&&◌, if◌then◌else◌, codes}
 use Rattle.std.specs.Str.{bytes_eq}
-use Rattle.oxt_item.specs.Entry.{Entry, detail, detailed}
-use Rattle.oxt_item.specs.declared.item.ItemKind.TheVariants as item
-use Rattle.oxt_table.specs.Field.{Field, is_typescript_field}
-use Rattle.oxt_table.specs.Kinds.{name_of}
-use Rattle.oxt_table.specs.declared.holds.Holds.{Holds}
-use Rattle.oxt_table.specs.declared.holds.Holds.TheVariants as holds
-use Rattle.oxt_table.specs.declared.kind.Kind.{Kind}
+use Rattle.oxt_facts.specs.Entry.{Entry, detail, detailed}
+use Rattle.oxt_facts.specs.declared.item.ItemKind.TheVariants as item
+use Rattle.oxt_grammar.specs.Field.{Field, is_typescript_field}
+use Rattle.oxt_grammar.specs.Kinds.{name_of}
+use Rattle.oxt_grammar.specs.declared.holds.Holds.{Holds}
+use Rattle.oxt_grammar.specs.declared.holds.Holds.TheVariants as holds
+use Rattle.oxt_grammar.specs.declared.kind.Kind.{Kind}
 use Rattle.oxt_tree.specs.Doc.{Doc, text, Docs, no_docs, doc}
 
 -- a field holds a text, a number, a word or a flag

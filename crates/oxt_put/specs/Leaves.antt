@@ -3,11 +3,11 @@ use Rattle.std.specs.Prelude.{ℕ, List, [], ◌∷◌, ◌++◌, Bool, true, fa
 use Rattle.oxt_facts.specs.Facts.{Known, is_made}
 use Rattle.oxt_facts.specs.Inside.{stored_at}
 use Rattle.oxt_forms.specs.Made.{base_key, base_name}
-use Rattle.oxt_item.specs.Entry.{Entry, binding_text, detail, detailed, lone, spelled}
-use Rattle.oxt_item.specs.declared.item.Binding.{Binding}
-use Rattle.oxt_item.specs.declared.item.ItemKind.{ItemKind}
-use Rattle.oxt_item.specs.declared.item.ItemKind.TheVariants as item
-use Rattle.oxt_table.specs.declared.kind.Kind.{Kind}
+use Rattle.oxt_facts.specs.Entry.{Entry, binding_text, detail, detailed, lone, spelled}
+use Rattle.oxt_facts.specs.declared.item.Binding.{Binding}
+use Rattle.oxt_facts.specs.declared.item.ItemKind.{ItemKind}
+use Rattle.oxt_facts.specs.declared.item.ItemKind.TheVariants as item
+use Rattle.oxt_grammar.specs.declared.kind.Kind.{Kind}
 use Rattle.oxt_tree.specs.Doc.{Doc, Docs, flag, text}
 use Rattle.oxt_tree.specs.Fields.{first, is_nil, named}
 

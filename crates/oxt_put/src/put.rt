@@ -1,12 +1,12 @@
 //! Items at the end of a word.
 ghost use Rattle.std.specs.Prelude.{◌≡◌, ◌∷◌, [], ◌++◌, IfOk, OnOk, map, not, codes, drop, option_map, take, if◌then◌else◌};
-ghost use Rattle.oxt_table.specs.Field.{row_view};
-ghost use Rattle.oxt_table.specs.Rows.{row_of};
+ghost use Rattle.oxt_grammar.specs.Field.{row_view};
+ghost use Rattle.oxt_grammar.specs.Rows.{row_of};
 ghost use Rattle.oxt_tree.specs.Fields.{first};
 ghost use Rattle.oxt_tree.specs.Doc.{flag, nil};
 ghost use Rattle.oxt_tree.specs.Fields.{field_of, named, is_nil};
 ghost use Rattle.oxt_tree.specs.View.{docs_in, doc_or_nil, part_doc};
-ghost use Rattle.oxt_item.specs.Entry.{atom_doc, detail, detailed, entries, entry_of, lone, spelled};
+ghost use Rattle.oxt_facts.specs.Entry.{atom_doc, detail, detailed, entries, entry_of, lone, spelled};
 ghost use Rattle.oxt_put.specs.Details.{details, is_atom, is_detail, is_read, start};
 ghost use Rattle.oxt_put.specs.Leaves.{base_word, bind_word, dropped, ends_kept, hash_word, in_word, is_kept_kind, name_word, number_word, private_word};
 ghost use Rattle.oxt_facts.specs.Facts.{is_made};
@@ -16,11 +16,11 @@ ghost use Rattle.oxt_forms.specs.Made.{base_in};
 
 use oxt_facts::facts::Facts;
 use oxt_facts::inside::stored_at;
+use oxt_facts::item::{Atom, Binding, Item, ItemKind};
 use oxt_forms::base::{base_in, base_key, base_name};
 use oxt_forms::forms::within;
-use oxt_item::item::{Atom, Binding, Item, ItemKind};
-use oxt_table::holds::{Holds, Row};
-use oxt_table::kind::Kind;
+use oxt_grammar::holds::{Holds, Row};
+use oxt_grammar::kind::Kind;
 use oxt_tree::ids::OutOfMemory;
 use oxt_tree::name::Name;
 use oxt_tree::tree::{Node, Part};

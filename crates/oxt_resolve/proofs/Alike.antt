@@ -6,8 +6,8 @@ use Rattle.oxt_enums.specs.Constants.{known_in}
 use Rattle.oxt_enums.specs.declared.enums.EnumConstants.{EnumConstants}
 use Rattle.oxt_resolve.specs.Resolved.{values_by}
 use Rattle.oxt_resolve.specs.Values.{values_in}
-use Rattle.oxt_scope.specs.Owners.{Owned}
-use Rattle.oxt_scopes.specs.Scopes.{Opened}
+use Rattle.oxt_scopes.specs.Owners.{Owned}
+use Rattle.oxt_scopes.specs.Nestings.{Opened}
 use Rattle.oxt_tree.specs.Doc.{Doc}
 
 -- what the program looks up is what the definition says

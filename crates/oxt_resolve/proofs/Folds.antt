@@ -1,8 +1,8 @@
 -- Loops that do one thing after the other.
 use Rattle.std.proofs.Common.{◌≡◌, ◌∙◌, sym, ap, ℕ, ◌+◌, ◌<◌, ◌≤◌, List, length, drop, get_or, map, fold, Option}
 use Rattle.oxt_resolve.specs.Resolved.{all_used, with_used}
-use Rattle.oxt_scope.specs.OwnedViews.{owned_view, owned_views}
-use Rattle.oxt_scope.specs.declared.owners.OwnedName.{OwnedName}
+use Rattle.oxt_scopes.specs.OwnedViews.{owned_view, owned_views}
+use Rattle.oxt_scopes.specs.declared.owners.OwnedName.{OwnedName}
 use Rattle.oxt_scoping.specs.Scoped.{Scoped}
 use Rattle.oxt_tree.proofs.Lists.{drop_at, drop_end}
 

@@ -11,9 +11,9 @@ use Rattle.oxt_resolve.specs.declared.marks.Mark.{Mark as Marked}
 use Rattle.oxt_resolve.specs.declared.marks.Marks.{Marks}
 use Rattle.oxt_resolve.specs.declared.spellings.Spelling.{Spelling}
 use Rattle.oxt_resolve.specs.declared.spellings.Spellings.{Spellings}
-use Rattle.oxt_symbol.specs.declared.flags.ScopeFlags.{ScopeFlags}
+use Rattle.oxt_names.specs.declared.flags.ScopeFlags.{ScopeFlags}
 use Rattle.std.proofs.lemmas.Bool.{eqb-true, eq-eqb}
-use Rattle.oxt_scope.proofs.Tables.{look_insert}
+use Rattle.oxt_scopes.proofs.Tables.{look_insert}
 use Rattle.oxt_tree.proofs.Lists.{drop_at, drop_end}
 
 -- ---- tables by numbers

@@ -6,25 +6,25 @@ use Rattle.std.specs.Int.RustNames.{bit_and, bit_or}
 use Rattle.oxt_declares.specs.Declarations.{Declared}
 use Rattle.oxt_resolve.specs.declared.enums.EnumPart.{EnumPart}
 use Rattle.oxt_resolve.specs.declared.enums.EnumPart.TheVariants as part
-use Rattle.oxt_symbol.specs.Constant.{Constant}
+use Rattle.oxt_names.specs.Constant.{Constant}
 use Rattle.oxt_resolve.specs.Flags.{joined, redeclared, symbol_flag}
 use Rattle.oxt_resolve.specs.Laws.{HasAllFlags, JoinsFlags}
 use Rattle.oxt_resolve.specs.Marks.{marks_of}
 use Rattle.oxt_resolve.specs.Resolved.{Values, again, all_declared, all_enums, all_opened, all_used, declared_as, declared_table, enum_as, opened_in, part_of, reference_of, root_of, scope_of_number, symbol_of, values_of, with_body, with_declarations, with_declared, with_enum, with_enums, with_opened, with_used, with_value}
 use Rattle.oxt_resolve.specs.Spellings.{spellings_of}
-use Rattle.oxt_scope.specs.Owners.{Owned, owners_of}
-use Rattle.oxt_scope.specs.Scopes.{number_of}
-use Rattle.oxt_scopes.specs.Scopes.{Opened, scopes_of}
+use Rattle.oxt_scopes.specs.Owners.{Owned, owners_of}
+use Rattle.oxt_scopes.specs.Scopes.{number_of}
+use Rattle.oxt_scopes.specs.Nestings.{Opened, scopes_of}
 use Rattle.oxt_scopes.specs.declared.standing.Standing.{Standing}
 use Rattle.oxt_scoping.proofs.Sound.{each_changed, each_push}
 use Rattle.oxt_scoping.specs.Entries.{SymbolData}
 use Rattle.oxt_scoping.specs.Scoped.{Each, Scoped, binding_at, meant_by, new_symbol}
 use Rattle.oxt_scoping.specs.declared.entry.Redeclaration.{Redeclaration}
-use Rattle.oxt_symbol.specs.declared.flags.ScopeFlags.{ScopeFlags}
-use Rattle.oxt_symbol.specs.declared.flags.SymbolFlags.{SymbolFlags}
-use Rattle.oxt_symbol.specs.declared.ids.ReferenceId.{ReferenceId}
-use Rattle.oxt_symbol.specs.declared.ids.ScopeId.{ScopeId}
-use Rattle.oxt_symbol.specs.declared.ids.SymbolId.{SymbolId}
+use Rattle.oxt_names.specs.declared.flags.ScopeFlags.{ScopeFlags}
+use Rattle.oxt_names.specs.declared.flags.SymbolFlags.{SymbolFlags}
+use Rattle.oxt_names.specs.declared.ids.ReferenceId.{ReferenceId}
+use Rattle.oxt_names.specs.declared.ids.ScopeId.{ScopeId}
+use Rattle.oxt_names.specs.declared.ids.SymbolId.{SymbolId}
 use Rattle.oxt_tree.specs.Doc.{Doc}
 
 -- what holds of a new symbol, and stays with a declaration more

@@ -10,20 +10,20 @@ use Rattle.oxt_resolve.proofs.Holding.{before_uses}
 use Rattle.oxt_declares.specs.Declarations.{Declared}
 use Rattle.oxt_resolve.specs.declared.enums.EnumPart.{EnumPart}
 use Rattle.oxt_resolve.specs.declared.enums.EnumPart.TheVariants as part
-use Rattle.oxt_symbol.specs.Constant.{Constant}
-use Rattle.oxt_scope.specs.Owners.{Owned, owners_of}
-use Rattle.oxt_scope.specs.Scopes.{number_of}
+use Rattle.oxt_names.specs.Constant.{Constant}
+use Rattle.oxt_scopes.specs.Owners.{Owned, owners_of}
+use Rattle.oxt_scopes.specs.Scopes.{number_of}
 use Rattle.oxt_resolve.specs.Flags.{redeclared}
-use Rattle.oxt_scopes.specs.Scopes.{Opened, scopes_of}
+use Rattle.oxt_scopes.specs.Nestings.{Opened, scopes_of}
 use Rattle.oxt_scopes.specs.declared.standing.Standing.{Standing}
 use Rattle.oxt_scoping.specs.Entries.{ScopeData, SymbolData}
 use Rattle.oxt_scoping.specs.Scoped.{Each, Scoped, binding_at, changed_at, meant_by}
 use Rattle.oxt_scoping.specs.declared.entry.Redeclaration.{Redeclaration}
 use Rattle.oxt_scoping.specs.declared.entry.Slot.{Slot}
-use Rattle.oxt_symbol.specs.declared.flags.ScopeFlags.{ScopeFlags}
-use Rattle.oxt_symbol.specs.declared.ids.ReferenceId.{ReferenceId}
-use Rattle.oxt_symbol.specs.declared.ids.ScopeId.{ScopeId}
-use Rattle.oxt_symbol.specs.declared.ids.SymbolId.{SymbolId}
+use Rattle.oxt_names.specs.declared.flags.ScopeFlags.{ScopeFlags}
+use Rattle.oxt_names.specs.declared.ids.ReferenceId.{ReferenceId}
+use Rattle.oxt_names.specs.declared.ids.ScopeId.{ScopeId}
+use Rattle.oxt_names.specs.declared.ids.SymbolId.{SymbolId}
 use Rattle.oxt_tree.specs.Doc.{Doc}
 
 -- ---- each reference

@@ -3,17 +3,17 @@ use Rattle.std.proofs.Common.{◌≡◌, ◌∙◌, refl, ap, ℕ, zero, suc, Li
 use Rattle.std.specs.Prelude.{option_map, slice_get}
 use Rattle.oxt_resolve.specs.Flags.{joined, usage_flags}
 use Rattle.oxt_resolve.specs.Resolved.{again, again_in, declared_as, flags_of_scope, flags_within, group_of, opened_within, with_used}
-use Rattle.oxt_scope.specs.Owners.{Owned}
-use Rattle.oxt_scopes.specs.Scopes.{Opened}
+use Rattle.oxt_scopes.specs.Owners.{Owned}
+use Rattle.oxt_scopes.specs.Nestings.{Opened}
 use Rattle.oxt_scoping.specs.Entries.{ScopeData, SymbolData}
 use Rattle.oxt_scoping.specs.Scoped.{Scoped, changed_at, new_scope, new_symbol, with_declaration, with_opened_scope, with_reference, with_symbol, with_symbol_flags}
 use Rattle.oxt_scoping.specs.declared.entry.Redeclaration.{Redeclaration}
-use Rattle.oxt_symbol.specs.declared.flags.ReferenceFlags.{ReferenceFlags}
-use Rattle.oxt_symbol.specs.declared.flags.ScopeFlags.{ScopeFlags}
-use Rattle.oxt_symbol.specs.declared.flags.SymbolFlags.{SymbolFlags}
-use Rattle.oxt_symbol.specs.declared.ids.ReferenceId.{ReferenceId}
-use Rattle.oxt_symbol.specs.declared.ids.ScopeId.{ScopeId}
-use Rattle.oxt_symbol.specs.declared.ids.SymbolId.{SymbolId}
+use Rattle.oxt_names.specs.declared.flags.ReferenceFlags.{ReferenceFlags}
+use Rattle.oxt_names.specs.declared.flags.ScopeFlags.{ScopeFlags}
+use Rattle.oxt_names.specs.declared.flags.SymbolFlags.{SymbolFlags}
+use Rattle.oxt_names.specs.declared.ids.ReferenceId.{ReferenceId}
+use Rattle.oxt_names.specs.declared.ids.ScopeId.{ScopeId}
+use Rattle.oxt_names.specs.declared.ids.SymbolId.{SymbolId}
 use Rattle.oxt_tree.specs.declared.ids.NodeId.{NodeId}
 
 flags_found : (o : Option ScopeData) (g : ScopeFlags) → option_map (λ x. x.flags) o ≡ Some g → g ≡ flags_of_scope o

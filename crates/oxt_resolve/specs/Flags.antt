@@ -6,14 +6,14 @@ use Rattle.oxt_declares.specs.declared.declaration.Sort.{Sort}
 use Rattle.oxt_declares.specs.declared.declaration.Sort.TheVariants as sort
 use Rattle.oxt_declares.specs.declared.role.Role.{Role}
 use Rattle.oxt_declares.specs.declared.role.Role.TheVariants as role
-use Rattle.oxt_scope.specs.declared.usage.Usage.{Usage}
-use Rattle.oxt_scope.specs.declared.usage.Usage.TheVariants as usage
+use Rattle.oxt_scopes.specs.declared.usage.Usage.{Usage}
+use Rattle.oxt_scopes.specs.declared.usage.Usage.TheVariants as usage
 use Rattle.oxt_scoping.specs.declared.entry.Redeclaration.{Redeclaration}
 use Rattle.oxt_scopes.specs.declared.standing.Standing.{Standing}
 use Rattle.oxt_scopes.specs.declared.standing.Standing.TheVariants as standing
-use Rattle.oxt_symbol.specs.declared.flags.ReferenceFlags.{ReferenceFlags}
-use Rattle.oxt_symbol.specs.declared.flags.ScopeFlags.{ScopeFlags}
-use Rattle.oxt_symbol.specs.declared.flags.SymbolFlags.{SymbolFlags}
+use Rattle.oxt_names.specs.declared.flags.ReferenceFlags.{ReferenceFlags}
+use Rattle.oxt_names.specs.declared.flags.ScopeFlags.{ScopeFlags}
+use Rattle.oxt_names.specs.declared.flags.SymbolFlags.{SymbolFlags}
 
 -- ---- scopes
 

@@ -1,15 +1,15 @@
 -- What holds of the table of every document.
 use Rattle.std.specs.Prelude.{ℕ, suc, ◌≡◌, List, [], ◌∷◌, map, fold, Bool, true, false, ◌==◌, if◌then◌else◌, Option, None, Some, IfSome, slice_get}
 use Rattle.oxt_tree.specs.Doc.{Doc}
-use Rattle.oxt_scope.specs.Owners.{owners_of}
+use Rattle.oxt_scopes.specs.Owners.{owners_of}
 use Rattle.oxt_scoping.specs.Entries.{SymbolData}
 use Rattle.oxt_scoping.specs.Scoped.{Each}
 use Rattle.oxt_scoping.specs.declared.entry.Redeclaration.{Redeclaration}
 use Rattle.oxt_scoping.specs.declared.entry.Reference.{Reference}
 use Rattle.oxt_scoping.specs.declared.entry.Slot.{Slot}
-use Rattle.oxt_symbol.specs.declared.flags.SymbolFlags.{SymbolFlags}
-use Rattle.oxt_symbol.specs.declared.ids.ReferenceId.{ReferenceId}
-use Rattle.oxt_symbol.specs.declared.ids.SymbolId.{SymbolId}
+use Rattle.oxt_names.specs.declared.flags.SymbolFlags.{SymbolFlags}
+use Rattle.oxt_names.specs.declared.ids.ReferenceId.{ReferenceId}
+use Rattle.oxt_names.specs.declared.ids.SymbolId.{SymbolId}
 use Rattle.oxt_resolve.specs.Flags.{joined, symbol_flag}
 use Rattle.oxt_resolve.specs.Resolved.{reference_of, resolved}
 use Rattle.oxt_resolve.specs.Spellings.{spellings_of}

@@ -1,15 +1,15 @@
 -- What nodes say of the scopes of functions, namespaces and the program besides their kinds.
 use Rattle.std.specs.Prelude.{ℕ, List, [], ◌∷◌, ◌++◌, map, Bool, true, false, ◌||◌, if◌then◌else◌, Option, None, Some, codes}
 use Rattle.std.specs.List.{list_any}
-use Rattle.oxt_table.specs.Places.{same_kind}
-use Rattle.oxt_table.specs.declared.kind.Kind.{Kind}
-use Rattle.oxt_table.specs.declared.kind.Kind.TheVariants as kind
+use Rattle.oxt_grammar.specs.Places.{same_kind}
+use Rattle.oxt_grammar.specs.declared.kind.Kind.{Kind}
+use Rattle.oxt_grammar.specs.declared.kind.Kind.TheVariants as kind
 use Rattle.oxt_tree.specs.Doc.{Doc, nil, flag, number, text, list, node, Docs, no_docs, doc}
 use Rattle.oxt_tree.specs.Fields.{docs_list, elements, field_of, is_text, named}
 use Rattle.oxt_declares.specs.RoleOf.{role_of}
 use Rattle.oxt_declares.specs.declared.role.Role.{Role}
 use Rattle.oxt_declares.specs.declared.role.Role.TheVariants as role
-use Rattle.oxt_symbol.specs.declared.flags.ScopeFlags.{ScopeFlags}
+use Rattle.oxt_names.specs.declared.flags.ScopeFlags.{ScopeFlags}
 use Rattle.oxt_resolve.specs.Flags.{both, scope_flag}
 use Rattle.oxt_resolve.specs.Gathered.{at_number, gathered, or_this}
 use Rattle.oxt_resolve.specs.declared.marks.Mark.{Mark as Marked}

@@ -3,24 +3,24 @@ use Rattle.std.specs.Prelude.{ℕ, List, [], ◌∷◌, ◌++◌, length, fold, 
 use Rattle.std.specs.Map.{lookup}
 use Rattle.indexmap.specs.IndexMap.{insert_entry}
 use Rattle.oxt_tree.specs.Doc.{Doc}
-use Rattle.oxt_uid.specs.Made.{all_added}
-use Rattle.oxt_uid.specs.Names.{names}
+use Rattle.oxt_names.specs.Made.{all_added}
+use Rattle.oxt_names.specs.Names.{names}
 use Rattle.oxt_declares.specs.Declarations.{Declared}
 use Rattle.oxt_declares.specs.declared.declaration.Sort.{Sort}
 use Rattle.oxt_declares.specs.declared.declaration.Sort.TheVariants as sort
 use Rattle.oxt_enums.specs.Constants.{first_value, flat, is_in_body, known_in}
-use Rattle.oxt_scope.specs.Owners.{Owned, owners_of}
-use Rattle.oxt_scope.specs.Scopes.{number_of}
-use Rattle.oxt_scopes.specs.Scopes.{Opened, scopes_of}
+use Rattle.oxt_scopes.specs.Owners.{Owned, owners_of}
+use Rattle.oxt_scopes.specs.Scopes.{number_of}
+use Rattle.oxt_scopes.specs.Nestings.{Opened, scopes_of}
 use Rattle.oxt_scopes.specs.declared.standing.Standing.{Standing}
 use Rattle.oxt_scoping.specs.Entries.{ScopeData, SymbolData}
 use Rattle.oxt_scoping.specs.Scoped.{Scoped, binding_at, changed_at, new_scope, new_symbol, with_body_at, with_opened_scope, with_reference, with_symbol, with_value_at}
 use Rattle.oxt_scoping.specs.declared.entry.Redeclaration.{Redeclaration}
 use Rattle.oxt_scoping.specs.declared.entry.Reference.{Reference}
-use Rattle.oxt_symbol.specs.Constant.{Constant}
-use Rattle.oxt_symbol.specs.declared.flags.ScopeFlags.{ScopeFlags}
-use Rattle.oxt_symbol.specs.declared.ids.ScopeId.{ScopeId}
-use Rattle.oxt_symbol.specs.declared.ids.SymbolId.{SymbolId}
+use Rattle.oxt_names.specs.Constant.{Constant}
+use Rattle.oxt_names.specs.declared.flags.ScopeFlags.{ScopeFlags}
+use Rattle.oxt_names.specs.declared.ids.ScopeId.{ScopeId}
+use Rattle.oxt_names.specs.declared.ids.SymbolId.{SymbolId}
 use Rattle.oxt_resolve.specs.declared.enums.EnumPart.{EnumPart}
 use Rattle.oxt_resolve.specs.declared.enums.EnumPart.TheVariants as part
 use Rattle.oxt_resolve.specs.Flags.{both, inherited, joined, redeclared, role_flags, scope_flag, usage_flags}

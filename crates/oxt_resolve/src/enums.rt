@@ -1,9 +1,9 @@
 //! The bodies of the enums of the table, and the constants of their members.
 ghost use Rattle.std.specs.Prelude.{◌≡◌, ◌<◌, IfSome, OnOk, Some, length, option_map};
 ghost use Rattle.oxt_declares.specs.Declarations.{declared_view};
-ghost use Rattle.oxt_scope.specs.Scopes.{number_of};
+ghost use Rattle.oxt_scopes.specs.Scopes.{number_of};
 ghost use Rattle.oxt_scopes.specs.Views.{opened_view, opened_views};
-ghost use Rattle.oxt_symbol.specs.Constant.{constant_view};
+ghost use Rattle.oxt_names.specs.Constant.{constant_view};
 ghost use Rattle.oxt_tree.specs.View.{doc_or_nil};
 ghost use Rattle.oxt_resolve.specs.Resolved.{all_enums, part_of, scope_of_number, symbol_of, with_body, with_enum, with_enums, with_value};
 ghost use Rattle.oxt_resolve.specs.Values.{values_in};
@@ -11,10 +11,10 @@ ghost use Rattle.oxt_resolve.specs.Values.{values_in};
 use crate::opening::scope_of_number;
 use oxt_declares::declaration::{Declaration, Sort};
 use oxt_enums::enums::EnumConstants;
+use oxt_names::constant::ConstantValue;
+use oxt_names::ids::SymbolId;
 use oxt_scopes::scopes::OpenedScope;
 use oxt_scoping::scoping::Scoping;
-use oxt_symbol::constant::ConstantValue;
-use oxt_symbol::ids::SymbolId;
 use oxt_tree::ids::{NodeId, OutOfMemory};
 use oxt_tree::tree::Part;
 

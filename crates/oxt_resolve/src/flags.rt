@@ -6,10 +6,10 @@ ghost use Rattle.oxt_resolve.specs.Flags.{ambient_flags, both, declared_flags, e
 use bitflags::Flags;
 use oxt_declares::declaration::{Declaration, Sort};
 use oxt_declares::role::Role;
-use oxt_scope::usage::Usage;
+use oxt_names::flags::{ReferenceFlags, ScopeFlags, SymbolFlags};
 use oxt_scopes::standing::Standing;
+use oxt_scopes::usage::Usage;
 use oxt_scoping::entry::Redeclaration;
-use oxt_symbol::flags::{ReferenceFlags, ScopeFlags, SymbolFlags};
 
 /// The flags of both.
 pub fn both(a: ScopeFlags, b: ScopeFlags) -> ScopeFlags

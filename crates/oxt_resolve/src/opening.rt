@@ -1,6 +1,6 @@
 //! The scopes of the table.
 ghost use Rattle.std.specs.Prelude.{◌≡◌, ◌<◌, [], IfOk, OnOk, length};
-ghost use Rattle.oxt_scope.specs.Stack.{number_at};
+ghost use Rattle.oxt_scopes.specs.Stack.{number_at};
 ghost use Rattle.oxt_scopes.specs.Views.{opened_view, opened_views};
 ghost use Rattle.oxt_tree.specs.View.{node_doc};
 ghost use Rattle.oxt_resolve.specs.Flags.{both};
@@ -9,13 +9,13 @@ ghost use Rattle.oxt_resolve.specs.Resolved.{all_opened, flags_at, flags_within,
 
 use crate::flags::{both, inherited, role_flags};
 use crate::marks::Marks;
+use oxt_names::flags::ScopeFlags;
+use oxt_names::ids::ScopeId;
+use oxt_names::uid::UidNames;
 use oxt_scopes::scopes::OpenedScope;
 use oxt_scoping::scoping::Scoping;
-use oxt_symbol::flags::ScopeFlags;
-use oxt_symbol::ids::ScopeId;
 use oxt_tree::ids::{NodeId, OutOfMemory};
 use oxt_tree::tree::Node;
-use oxt_uid::uid::UidNames;
 use std::alloc::Global;
 
 /// The table with the scope of the program alone.

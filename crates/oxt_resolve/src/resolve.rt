@@ -3,7 +3,7 @@ ghost use Rattle.std.specs.Prelude.{◌≡◌, IfOk, OnOk};
 ghost use Rattle.oxt_resolve.specs.Marks.{flags_in, marks_of};
 ghost use Rattle.oxt_resolve.specs.Resolved.{all_declared, all_enums, all_opened, all_used, declared_by, resolved, table_by, used_by, values_by};
 ghost use Rattle.oxt_resolve.specs.Spellings.{spellings_of};
-ghost use Rattle.oxt_scope.specs.OwnedViews.{owned_views};
+ghost use Rattle.oxt_scopes.specs.OwnedViews.{owned_views};
 ghost use Rattle.oxt_scopes.specs.Views.{opened_views};
 ghost use Rattle.oxt_tree.specs.View.{node_doc};
 
@@ -14,7 +14,7 @@ use crate::spellings::Spellings;
 use crate::symbols::declare_all;
 use crate::uses::refer_all;
 use oxt_enums::enums::EnumConstants;
-use oxt_scope::owners::{OwnedName, owners_of};
+use oxt_scopes::owners::{OwnedName, owners_of};
 use oxt_scopes::scopes::{OpenedScope, scopes_of};
 use oxt_scoping::scoping::Scoping;
 use oxt_tree::ids::OutOfMemory;

@@ -1,16 +1,16 @@
 //! The references of the table.
 ghost use Rattle.std.specs.Prelude.{◌≡◌, ◌<◌, IfSome, OnOk, length, option_map};
-ghost use Rattle.oxt_scope.specs.OwnedViews.{owned_view, owned_views};
-ghost use Rattle.oxt_scope.specs.Stack.{number_at};
+ghost use Rattle.oxt_scopes.specs.OwnedViews.{owned_view, owned_views};
+ghost use Rattle.oxt_scopes.specs.Stack.{number_at};
 ghost use Rattle.oxt_resolve.specs.Resolved.{all_used, group_of, with_used};
 ghost use Rattle.oxt_resolve.specs.Spellings.{name_in};
 
 use crate::flags::usage_flags;
 use crate::opening::scope_of_number;
 use crate::spellings::Spellings;
-use oxt_scope::owners::OwnedName;
+use oxt_names::ids::SymbolId;
+use oxt_scopes::owners::OwnedName;
 use oxt_scoping::scoping::Scoping;
-use oxt_symbol::ids::SymbolId;
 use oxt_tree::ids::{NodeId, OutOfMemory};
 
 /// Makes the references of the names.

@@ -1,7 +1,7 @@
 -- Lists that grow at their end.
 use Rattle.std.proofs.Common.{◌≡◌, ◌∙◌, ap, List, [], ◌∷◌, ◌++◌, append_assoc}
 use Rattle.std.proofs.lemmas.List.{map-append}
-use Rattle.oxt_scopes.specs.Scopes.{Opened}
+use Rattle.oxt_scopes.specs.Nestings.{Opened}
 use Rattle.oxt_scopes.specs.Views.{opened_view, opened_views}
 use Rattle.oxt_scopes.specs.declared.scopes.OpenedScope.{OpenedScope}
 

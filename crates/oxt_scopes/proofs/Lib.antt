@@ -1,3 +1,6 @@
 pub mod Appends
 pub mod Numbers
+pub mod OwnerLoops
 pub mod ScopeLoops
+pub mod Stacks
+pub mod Tables

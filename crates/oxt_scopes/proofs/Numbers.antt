@@ -1,7 +1,7 @@
 -- Numbers of scopes that are put on those around a place, and taken off.
 use Rattle.std.proofs.Common.{◌≡◌, ◌∙◌, refl, ap, ℕ, zero, suc, ◌-◌, List, [], ◌∷◌, ◌++◌, length, take, fold, arith}
 use Rattle.oxt_tree.specs.declared.ids.NodeId.{NodeId}
-use Rattle.oxt_scopes.specs.Scopes.{outer}
+use Rattle.oxt_scopes.specs.Nestings.{outer}
 use Rattle.oxt_scopes.specs.Views.{numbers}
 
 abbrev pub deeper : List ℕ → NodeId → List ℕ

@@ -1,17 +1,17 @@
 -- Scopes, a part at a time.
 use Rattle.std.proofs.Common.{◌≡◌, ◌∙◌, refl, sym, ap, ℕ, ◌+◌, ◌<◌, ◌≤◌, List, [], ◌∷◌, ◌++◌, map, length, drop, get_or, append_assoc, append-nil}
-use Rattle.oxt_table.specs.Field.{row_view}
-use Rattle.oxt_table.specs.Rows.{row_of}
-use Rattle.oxt_table.specs.declared.holds.Row.{Row}
-use Rattle.oxt_table.specs.declared.kind.Kind.{Kind}
+use Rattle.oxt_grammar.specs.Field.{row_view}
+use Rattle.oxt_grammar.specs.Rows.{row_of}
+use Rattle.oxt_grammar.specs.declared.holds.Row.{Row}
+use Rattle.oxt_grammar.specs.declared.kind.Kind.{Kind}
 use Rattle.oxt_tree.proofs.Lists.{drop_at, drop_end}
 use Rattle.oxt_tree.specs.View.{docs_in, part_doc}
 use Rattle.oxt_tree.specs.declared.tree.Part.{Part}
 use Rattle.oxt_scopes.specs.declared.standing.Standing.{Standing}
-use Rattle.oxt_scopes.specs.Scopes.{Opened, each_scopes, field_scopes, scopes, read_scopes}
-use Rattle.oxt_scope.specs.Ways.{way_of}
-use Rattle.oxt_scope.specs.declared.way.Reading.{Reading}
-use Rattle.oxt_scope.specs.declared.way.Way.{Way}
+use Rattle.oxt_scopes.specs.Nestings.{Opened, each_scopes, field_scopes, scopes, read_scopes}
+use Rattle.oxt_scopes.specs.Ways.{way_of}
+use Rattle.oxt_scopes.specs.declared.way.Reading.{Reading}
+use Rattle.oxt_scopes.specs.declared.way.Way.{Way}
 
 pub each_end : (before : List Opened) (w : Way) (st : Standing) (ls : List ℕ) (ps : List Part) (i : ℕ) → length ps ≤ i → before ++ each_scopes (docs_in (drop i ps)) w st ls ≡ before
 each_end before w st ls ps i h = ap (λ qs. before ++ each_scopes (docs_in qs) w st ls) (drop_end ps i h) ∙ append-nil before

@@ -1,86 +1,61 @@
--- The scopes of a document, in the order of the text.
-use Rattle.std.specs.Prelude.{ℕ, List, [], ◌∷◌, ◌++◌, Option, None, Some}
-use Rattle.oxt_table.specs.Field.{Field}
-use Rattle.oxt_table.specs.Rows.{row_of}
-use Rattle.oxt_table.specs.declared.kind.Kind.{Kind}
-use Rattle.oxt_tree.specs.Doc.{Doc, nil, flag, number, text, list, node, Docs, no_docs, doc}
-use Rattle.oxt_declares.specs.Declarations.{Declared}
-use Rattle.oxt_declares.specs.Declares.{each_found, node_declares}
-use Rattle.oxt_scope.specs.Owners.{read, scope_number}
-use Rattle.oxt_declares.specs.RoleOf.{role_of}
-use Rattle.oxt_scope.specs.Ways.{step_of, way_of}
-use Rattle.oxt_declares.specs.declared.collect.Mode.{Mode}
-use Rattle.oxt_declares.specs.declared.role.Role.{Role}
-use Rattle.oxt_scope.specs.declared.way.Pass.TheVariants as pass
-use Rattle.oxt_scope.specs.declared.way.Reading.{Reading}
-use Rattle.oxt_scope.specs.declared.way.Step.{Step}
-use Rattle.oxt_scope.specs.declared.way.Step.TheVariants as step
-use Rattle.oxt_scope.specs.declared.way.Way.{Way}
-use Rattle.oxt_scope.specs.declared.way.Way.TheVariants as way
-use Rattle.oxt_scopes.specs.Standings.{standing_in}
-use Rattle.oxt_scopes.specs.declared.standing.Standing.{Standing}
-use Rattle.oxt_scopes.specs.declared.standing.Standing.TheVariants as standing
+-- What a name means, from the innermost scope outwards.
+use Rattle.std.specs.Prelude.{ℕ, List, [], ◌∷◌, Bool, ◌&&◌, if◌then◌else◌, Option, None, Some}
+use Rattle.std.specs.List.{list_any}
+use Rattle.std.specs.Str.{bytes_eq}
+use Rattle.oxt_tree.specs.Doc.{Doc, node}
+use Rattle.oxt_declares.specs.Declarations.{Declared, has}
+use Rattle.oxt_declares.specs.Declares.{members_in}
+use Rattle.oxt_declares.specs.declared.declaration.Sight.{Sight}
+use Rattle.oxt_declares.specs.declared.declaration.Sight.TheVariants as sight
 
--- a scope: its number, that of the scope around it, what the node is that opens it, how that node
--- stands, and what it declares
-pub record Opened : Type 0 where
-  pub number : ℕ
-  pub parent : Option ℕ
-  pub role : Role
-  pub standing : Standing
-  pub declared : List Declared
+-- A scope, as names see it: the number of the node whose group a name means, and of the enum blocks
+-- of that name in it the number of the first body with that member.
+pub record Level : Type 0 where
+  pub find : Sight → List ℕ → Option ℕ
+  pub block : List ℕ → List ℕ → Option ℕ
 
--- the first of the scopes around a place, if there is one
-abbrev pub innermost : List ℕ → Option ℕ
-innermost [] = None
-innermost (n ∷ ns) = Some n
+-- the number of a node, and 0 for anything else
+abbrev pub number_of : Doc → ℕ
+number_of (node k i b e ds) = i
+number_of d = 0
 
--- the others
-abbrev pub outer : List ℕ → List ℕ
-outer [] = []
-outer (n ∷ ns) = ns
+-- some declaration has that name
+abbrev pub has_name : List ℕ → List Declared → Bool
+has_name t ds = list_any (λ d. bytes_eq t d.name) ds
 
-abbrev pub opened_scope : Role → Kind → ℕ → Docs → Standing → Option ℕ → (Mode → List Declared) → Opened
-opened_scope r k i ds s n m = record { number = scope_number r k i ds; parent = n; role = r; standing = s; declared = node_declares r k ds m }
+-- the first answer, if there is one, and else the second
+abbrev pub or_else : Option ℕ → Option ℕ → Option ℕ
+or_else None b = b
+or_else (Some i) b = Some i
 
--- the scopes in the fields of a node that are read so
-abbrev pub Fields : Type 0
-Fields = Reading → Standing → List ℕ → List Opened
+-- the enum block with that name has that member
+abbrev pub is_block_of : List ℕ → List ℕ → Declared → Bool
+is_block_of e t d = has_name t (members_in d.body) && bytes_eq e d.name
 
--- the scopes in a node, by what becomes of it
-abbrev pub step_scopes : Step → Reading → Kind → ℕ → Docs → Standing → List ℕ → (Mode → List Declared) → Fields → List Opened
-step_scopes step.Use r k i ds s ns m c = []
-step_scopes step.Plain r k i ds s ns m c = c (record r { pass = pass.Here }) s ns
-step_scopes step.Opens r k i ds s ns m c =
-    c (record r { pass = pass.Around }) s ns
-    ++ (opened_scope r.role k i ds s (innermost ns) m ∷ c (record r { pass = pass.Within }) s (scope_number r.role k i ds ∷ ns))
-step_scopes step.Hides r k i ds s ns m c = c (record r { pass = pass.Beyond }) s (outer ns) ++ c (record r { pass = pass.Here }) s ns
+-- the number of the body of the first block of an enum of that name that has that member
+abbrev pub block_in : List ℕ → List ℕ → List Declared → Option ℕ
+block_in e t [] = None
+block_in e t (d ∷ ds) = if is_block_of e t d then Some (number_of d.body) else block_in e t ds
 
--- a part, if it is read
-abbrev pub read_scopes : Option Way → (Way → Standing → List ℕ → List Opened) → Standing → List ℕ → List Opened
-read_scopes None c s ns = []
-read_scopes (Some w) c s ns = c w s ns
+-- a block of the enum of that name in the scope around it, which is the first of the list
+abbrev pub beside : Option (List ℕ) → List Level → List ℕ → Option ℕ
+beside None ls t = None
+beside (Some e) [] t = None
+beside (Some e) (l ∷ ls) t = l.block e t
 
--- the scopes in a document
-abbrev mutual
-  pub scopes : Doc → Way → Standing → List ℕ → List Opened
-  scopes nil w s ns = []
-  scopes (flag b) w s ns = []
-  scopes (number n) w s ns = []
-  scopes (text t) w s ns = []
-  scopes (list ds) w s ns = each_scopes ds w s ns
-  scopes (node k i b e ds) w s ns =
-      step_scopes (step_of (role_of k) w) (read (role_of k) w k ds) k i ds (standing_in s k ds) ns (each_found ds) (field_scopes ds (row_of k))
+-- a scope with that number that declares these, in a block of the enum of that name if there is one
+abbrev pub level : ℕ → List Declared → Option (List ℕ) → List Level → Level
+level n ds e ls = record {
+  find = λ s t. if has s t ds then Some n else beside e ls t;
+  block = λ d t. block_in d t ds;
+}
 
-  pub each_scopes : Docs → Way → Standing → List ℕ → List Opened
-  each_scopes no_docs w s ns = []
-  each_scopes (doc d ds) w s ns = scopes d w s ns ++ each_scopes ds w s ns
+-- What a name means that is read so: the group in the innermost scope that has one.
+abbrev pub look : Sight → List ℕ → List Level → Option ℕ
+look s t [] = None
+look s t (l ∷ ls) = or_else (l.find s t) (look s t ls)
 
-  pub field_scopes : Docs → List Field → Reading → Standing → List ℕ → List Opened
-  field_scopes no_docs fs r s ns = []
-  field_scopes (doc d ds) [] r s ns = []
-  field_scopes (doc d ds) (f ∷ fs) r s ns = read_scopes (way_of r f.name) (scopes d) s ns ++ field_scopes ds fs r s ns
-
--- the scopes of a whole tree
-abbrev pub scopes_of : Doc → List Opened
-scopes_of d = scopes d way.Whole standing.Emitted []
+-- The same in the signature of the innermost function, of which only type parameters are seen.
+abbrev pub look_in_signature : List ℕ → List Level → Option ℕ
+look_in_signature t [] = None
+look_in_signature t (l ∷ ls) = or_else (l.find sight.TypeParameter t) (look sight.Type t ls)

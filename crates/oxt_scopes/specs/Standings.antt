@@ -1,8 +1,8 @@
 -- Whether what a declaration says is there at run time.
 use Rattle.std.specs.Prelude.{Bool, false, not, ◌&&◌, ◌||◌, if◌then◌else◌, codes}
-use Rattle.oxt_table.specs.Places.{same_kind}
-use Rattle.oxt_table.specs.declared.kind.Kind.{Kind}
-use Rattle.oxt_table.specs.declared.kind.Kind.TheVariants as kind
+use Rattle.oxt_grammar.specs.Places.{same_kind}
+use Rattle.oxt_grammar.specs.declared.kind.Kind.{Kind}
+use Rattle.oxt_grammar.specs.declared.kind.Kind.TheVariants as kind
 use Rattle.oxt_tree.specs.Doc.{Docs}
 use Rattle.oxt_tree.specs.Fields.{is_set, is_text, named}
 use Rattle.oxt_tree.specs.Syntax.{is_erased_kind, is_type_only, lacks_body}

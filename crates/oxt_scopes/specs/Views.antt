@@ -2,8 +2,8 @@
 use Rattle.std.specs.Prelude.{ℕ, List, [], ◌∷◌, map, fold}
 use Rattle.oxt_tree.specs.declared.ids.NodeId.{NodeId}
 use Rattle.oxt_declares.specs.Declarations.{declared_views}
-use Rattle.oxt_scope.specs.Stack.{number_at}
-use Rattle.oxt_scopes.specs.Scopes.{Opened}
+use Rattle.oxt_scopes.specs.Stack.{number_at}
+use Rattle.oxt_scopes.specs.Nestings.{Opened}
 use Rattle.oxt_scopes.specs.declared.scopes.OpenedScope.{OpenedScope}
 
 abbrev pub opened_view : OpenedScope → Opened

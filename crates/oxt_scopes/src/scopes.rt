@@ -1,24 +1,24 @@
 //! The scopes of a tree.
 ghost use Rattle.std.specs.Prelude.{◌≡◌, ◌++◌, ◌∷◌, [], IfOk, OnOk, map};
-ghost use Rattle.oxt_table.specs.Field.{row_view};
-ghost use Rattle.oxt_table.specs.Rows.{row_of};
+ghost use Rattle.oxt_grammar.specs.Field.{row_view};
+ghost use Rattle.oxt_grammar.specs.Rows.{row_of};
 ghost use Rattle.oxt_tree.specs.View.{docs_in, node_doc, part_doc};
 ghost use Rattle.oxt_declares.specs.Declares.{each_found};
-ghost use Rattle.oxt_scope.specs.Owners.{read};
+ghost use Rattle.oxt_scopes.specs.Owners.{read};
 ghost use Rattle.oxt_declares.specs.RoleOf.{role_of};
-ghost use Rattle.oxt_scope.specs.Stack.{number_at};
+ghost use Rattle.oxt_scopes.specs.Stack.{number_at};
 ghost use Rattle.oxt_scopes.specs.Views.{numbers, opened_views};
-ghost use Rattle.oxt_scopes.specs.Scopes.{each_scopes, field_scopes, innermost, opened_scope, read_scopes, scopes, scopes_of, step_scopes};
+ghost use Rattle.oxt_scopes.specs.Nestings.{each_scopes, field_scopes, innermost, opened_scope, read_scopes, scopes, scopes_of, step_scopes};
 ghost use Rattle.oxt_scopes.specs.Standings.{standing_in};
 
+use crate::owners::reading_of;
+use crate::scope::scope_number;
 use crate::standing::Standing;
+use crate::way::{Pass, Reading, Step, Way, step_of};
 use oxt_declares::declaration::Declaration;
 use oxt_declares::declares::push_declared;
 use oxt_declares::role::Role;
-use oxt_scope::owners::reading_of;
-use oxt_scope::scope::scope_number;
-use oxt_scope::way::{Pass, Reading, Step, Way, step_of};
-use oxt_table::holds::Row;
+use oxt_grammar::holds::Row;
 use oxt_tree::ids::{NodeId, OutOfMemory};
 use oxt_tree::tree::{Node, Part};
 use std::alloc::Global;

@@ -1,7 +1,7 @@
 //! Whether what a declaration says is there at run time.
 ghost use Rattle.std.specs.Prelude.{◌≡◌, codes};
 ghost use Rattle.std.specs.List.{list_any};
-ghost use Rattle.oxt_table.specs.Places.{same_kind};
+ghost use Rattle.oxt_grammar.specs.Places.{same_kind};
 ghost use Rattle.oxt_tree.specs.Fields.{is_kind, is_set, is_text, named};
 ghost use Rattle.oxt_tree.specs.Syntax.{erased_kinds, is_erased_kind, lacks_body};
 ghost use Rattle.oxt_tree.specs.View.{docs_in};
@@ -11,7 +11,7 @@ ghost use Rattle.oxt_scopes.specs.Standings.{declares_alone, is_erased_alone, is
 use oxt_declares::role::Role;
 use oxt_declares::role_of::role_of;
 use oxt_declares::types_alone::is_of_types;
-use oxt_table::kind::Kind;
+use oxt_grammar::kind::Kind;
 use oxt_tree::tree::Node;
 
 /// Whether a declaration is there at run time.

@@ -5,9 +5,9 @@ use Rattle.std.specs.Str.{bytes_eq}
 use Rattle.std.specs.String.{string_eq}
 use Rattle.std.specs.declared.alloc.Global.{Global}
 use Rattle.indexmap.specs.IndexMap.{insert_entry}
-use Rattle.oxt_symbol.specs.declared.flags.ScopeFlags.{ScopeFlags}
-use Rattle.oxt_symbol.specs.declared.ids.ScopeId.{ScopeId}
-use Rattle.oxt_symbol.specs.declared.ids.SymbolId.{SymbolId}
+use Rattle.oxt_names.specs.declared.flags.ScopeFlags.{ScopeFlags}
+use Rattle.oxt_names.specs.declared.ids.ScopeId.{ScopeId}
+use Rattle.oxt_names.specs.declared.ids.SymbolId.{SymbolId}
 use Rattle.oxt_scoping.specs.Entries.{Bindings, ScopeData, bind, bound_to, spelled, unbind}
 
 abbrev pub Entry : Type 0

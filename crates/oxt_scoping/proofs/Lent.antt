@@ -1,8 +1,8 @@
 -- Tables of which a part is lent.
 use Rattle.std.proofs.Common.{◌≡◌, refl, sym, ap, subst, ◌∙◌, ℕ, zero, suc, ◌<◌, List, [], ◌∷◌, length, get_or, Bool, true, false, if◌then◌else◌, Option, Some, None, IsSome, true≢false, arith}
 use Rattle.std.specs.Prelude.{option_map, slice_get, slice_set}
-use Rattle.oxt_symbol.specs.declared.flags.ScopeFlags.{ScopeFlags}
-use Rattle.oxt_symbol.specs.declared.flags.SymbolFlags.{SymbolFlags}
+use Rattle.oxt_names.specs.declared.flags.ScopeFlags.{ScopeFlags}
+use Rattle.oxt_names.specs.declared.flags.SymbolFlags.{SymbolFlags}
 use Rattle.oxt_scoping.specs.declared.entry.Reference.{Reference}
 use Rattle.oxt_scoping.specs.declared.entry.Slot.{Slot}
 use Rattle.oxt_scoping.specs.Entries.{ScopeData, SymbolData}

@@ -5,12 +5,12 @@ use Rattle.std.specs.declared.alloc.Global.{Global}
 use Rattle.std.specs.Map.{lookup, remove_entry}
 use Rattle.std.specs.Str.{bytes_eq}
 use Rattle.indexmap.specs.IndexMap.{insert_entry}
-use Rattle.oxt_symbol.specs.declared.flags.ScopeFlags.{ScopeFlags}
-use Rattle.oxt_symbol.specs.declared.flags.SymbolFlags.{SymbolFlags}
-use Rattle.oxt_symbol.specs.declared.ids.ReferenceId.{ReferenceId}
-use Rattle.oxt_symbol.specs.declared.ids.ScopeId.{ScopeId}
-use Rattle.oxt_symbol.specs.declared.ids.SymbolId.{SymbolId}
-use Rattle.oxt_symbol.specs.Constant.{Constant}
+use Rattle.oxt_names.specs.declared.flags.ScopeFlags.{ScopeFlags}
+use Rattle.oxt_names.specs.declared.flags.SymbolFlags.{SymbolFlags}
+use Rattle.oxt_names.specs.declared.ids.ReferenceId.{ReferenceId}
+use Rattle.oxt_names.specs.declared.ids.ScopeId.{ScopeId}
+use Rattle.oxt_names.specs.declared.ids.SymbolId.{SymbolId}
+use Rattle.oxt_names.specs.Constant.{Constant}
 use Rattle.oxt_scoping.specs.declared.entry.Redeclaration.{Redeclaration}
 
 -- the symbols of a scope by their spellings, in the order in which the spellings were bound

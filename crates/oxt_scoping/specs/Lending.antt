@@ -1,10 +1,10 @@
 -- What a table is once a part of it, which was lent, is given back.
 use Rattle.std.specs.Prelude.{ℕ}
 use Rattle.std.specs.Borrow.{Lends, MutBor, Fml}
-use Rattle.oxt_symbol.specs.declared.flags.ScopeFlags.{ScopeFlags}
-use Rattle.oxt_symbol.specs.declared.flags.SymbolFlags.{SymbolFlags}
-use Rattle.oxt_symbol.specs.contracts.flags.ScopeFlags.{the_row as scope_flags_row}
-use Rattle.oxt_symbol.specs.contracts.flags.SymbolFlags.{the_row as symbol_flags_row}
+use Rattle.oxt_names.specs.declared.flags.ScopeFlags.{ScopeFlags}
+use Rattle.oxt_names.specs.declared.flags.SymbolFlags.{SymbolFlags}
+use Rattle.oxt_names.specs.contracts.flags.ScopeFlags.{the_row as scope_flags_row}
+use Rattle.oxt_names.specs.contracts.flags.SymbolFlags.{the_row as symbol_flags_row}
 use Rattle.oxt_scoping.specs.Entries.{ScopeData, SymbolData}
 use Rattle.oxt_scoping.specs.Scoped.{Scoped, with_reference_at, with_scope_flags, with_symbol_flags}
 use Rattle.oxt_scoping.specs.declared.entry.Reference.{Reference}

@@ -2,12 +2,12 @@
 ghost use Rattle.std.specs.Prelude.{◌≡◌, ◌<◌, ◌++◌, ◌∷◌, [], IfSome, OnErr, OnOk, Some, is_some, length, nat_eq, slice_get, string_bytes, vec_capacity, vec_len};
 ghost use Rattle.indexmap.specs.IndexMap.{insert_entry, spare};
 ghost use Rattle.oxt_scoping.specs.Scoped.{bound_at, declared_again, deleted_at, forgotten_by, found_within, live_at, meant_at, meant_by, unbound_at, values_alone, with_body_at, with_value_at};
-ghost use Rattle.oxt_symbol.specs.Constant.{constant_view};
+ghost use Rattle.oxt_names.specs.Constant.{constant_view};
 
 use crate::entry::{Redeclaration, ScopeEntry, Slot, SymbolEntry};
 use indexmap::IndexMap;
-use oxt_symbol::constant::ConstantValue;
-use oxt_symbol::ids::{ReferenceId, ScopeId, SymbolId};
+use oxt_names::constant::ConstantValue;
+use oxt_names::ids::{ReferenceId, ScopeId, SymbolId};
 use oxt_tree::ids::{NodeId, OutOfMemory};
 
 /// The scope with that number.

@@ -1,8 +1,8 @@
 //! The table of a program's scopes, symbols and references.
 ghost use Rattle.std.specs.Prelude.{◌≡◌, ◌<◌, ◌++◌, ◌∷◌, [], IfOk, IfSome, IsSome, IsTrue, IsOk, None, OnErr, OnOk, Some, false, is_some, length, nat_lt, option_map, slice_get, true};
-ghost use Rattle.oxt_symbol.specs.Constant.{constant_view};
+ghost use Rattle.oxt_names.specs.Constant.{constant_view};
 ghost use Rattle.oxt_tree.specs.Names.{name_bytes};
-ghost use Rattle.oxt_uid.specs.Made.{is_among, made_name};
+ghost use Rattle.oxt_names.specs.Made.{is_among, made_name};
 ghost use Rattle.oxt_scoping.specs.Entries.{begins_const, bodies_of};
 ghost use Rattle.oxt_scoping.specs.Scoped.{Each, at_node, binding_at, found_outwards, live_at, new_scope, new_symbol, still, unbound_at, values_alone, with_body_at, with_declaration, with_opened_scope, with_reference, with_scope, with_symbol, with_value_at, without_reference};
 
@@ -14,12 +14,12 @@ use crate::places::{
     push_reserved, put_reserved, refer_in, scope_at, set_value_in, slot_at, symbol_at, unbind_in,
 };
 use indexmap::IndexMap;
-use oxt_symbol::constant::ConstantValue;
-use oxt_symbol::flags::{ReferenceFlags, ScopeFlags, SymbolFlags};
-use oxt_symbol::ids::{ReferenceId, ScopeId, SymbolId};
+use oxt_names::constant::ConstantValue;
+use oxt_names::flags::{ReferenceFlags, ScopeFlags, SymbolFlags};
+use oxt_names::ids::{ReferenceId, ScopeId, SymbolId};
+use oxt_names::uid::UidNames;
 use oxt_tree::ids::{NodeId, OutOfMemory};
 use oxt_tree::name::Name;
-use oxt_uid::uid::UidNames;
 use std::alloc::Global;
 use std::marker::Model;
 use std::vec;
@@ -350,10 +350,10 @@ impl Scoping {
         ensures kept { OnErr result (self.new ≡ self.old) }
     {
         let symbol = SymbolId(self.symbols.len() as u64);
-        let key = String::from_str(self.alloc, name.as_str())?;
-        let entry = SymbolEntry::declared(self.alloc, name, scope, flags, declaration)?;
         self.symbols.reserve(1)?;
         self.declared.reserve(1)?;
+        let entry = SymbolEntry::declared(self.alloc, name, scope, flags, declaration)?;
+        let key = String::from_str(self.alloc, name.as_str())?;
         bind_in(&mut self.scopes, scope, key, symbol)?;
         push_reserved(&mut self.symbols, entry);
         put_reserved(&mut self.declared, declaration.node, symbol);

@@ -1,6 +1,6 @@
 -- Declarators that wait to stand at the top of a list of statements.
 use Rattle.std.specs.Prelude.{ℕ, ◌+◌, ◌-◌, List, [], ◌∷◌, ◌++◌, map, length, take, Option, None, Some, codes, false}
-use Rattle.oxt_table.specs.declared.kind.Kind.TheVariants as kind
+use Rattle.oxt_grammar.specs.declared.kind.Kind.TheVariants as kind
 use Rattle.oxt_tree.specs.Doc.{Doc, nil, flag, text, list, node, no_docs, doc, docs_of}
 use Rattle.oxt_stores.specs.Insertion.{docs}
 use Rattle.oxt_stores.specs.declared.declarations.Declarators.{Declarators}

@@ -1,6 +1,6 @@
 //! Names with their symbols.
 
-use oxt_symbol::ids::SymbolId;
+use oxt_names::ids::SymbolId;
 use oxt_tree::name::Name;
 
 /// A name that is bound, and its symbol.

@@ -4,12 +4,12 @@ ghost use Rattle.oxt_tree.specs.Names.{name_bytes};
 ghost use Rattle.oxt_tree.specs.View.{node_doc};
 ghost use Rattle.oxt_stores.specs.Frame.{below_top, binding, declarator, frame, frames, let_statement, no_declarators, statement_count, statements_made, top_frame, var_statement, with_let, with_var};
 ghost use Rattle.oxt_stores.specs.Insertion.{docs};
-ghost use Rattle.oxt_table.specs.Words.{text_of};
+ghost use Rattle.oxt_grammar.specs.Words.{text_of};
 ghost use Rattle.oxt_stores.specs.Ready.{IsBlank, IsReady, blank_statement};
 
 use crate::bound::BoundIdentifier;
 use crate::make::{Blank, binding, declarator};
-use oxt_table::word::Word;
+use oxt_grammar::word::Word;
 use oxt_tree::ids::{NodeIds, OutOfMemory};
 use oxt_tree::tree::{Node, Part};
 use std::alloc::Global;

@@ -1,18 +1,17 @@
 -- What is said of a symbol or a reference is said of the one that is found.
-use Rattle.std.proofs.Common.{◌≡◌, ◌∙◌, refl, sym, ap, ℕ, List, [], ◌∷◌, Bool, false, Option, None, Some, option_map, is_some, nat_eq}
+use Rattle.std.proofs.Common.{◌≡◌, ◌∙◌, refl, sym, ap, ℕ, List, ◌∷◌, false, Option, None, Some, option_map, is_some, nat_eq}
 use Rattle.std.specs.Prelude.{slice_get, ◌==◌}
 use Rattle.indexmap.specs.IndexMap.{insert_entry}
 use Rattle.oxt_facts.specs.Told.{Tellings, block, member, bare}
-use Rattle.oxt_kept.specs.Names.{symbol_in}
-use Rattle.oxt_plan.specs.Facts.{is_in}
+use Rattle.oxt_modules.specs.Names.{symbol_in}
+use Rattle.oxt_options.specs.Facts.{is_in}
 use Rattle.oxt_scoping.specs.Entries.{SymbolData}
-use Rattle.oxt_scoping.specs.Scoped.{Scoped, live_at}
+use Rattle.oxt_scoping.specs.Scoped.{Scoped}
 use Rattle.oxt_scoping.specs.declared.entry.Reference.{Reference}
-use Rattle.oxt_symbol.specs.Constant.{Constant}
-use Rattle.oxt_symbol.specs.declared.ids.ReferenceId.{ReferenceId}
-use Rattle.oxt_symbol.specs.declared.ids.ScopeId.{ScopeId}
-use Rattle.oxt_symbol.specs.declared.ids.SymbolId.{SymbolId}
-use Rattle.oxt_told.proofs.Loops.{told_both}
+use Rattle.oxt_names.specs.Constant.{Constant}
+use Rattle.oxt_names.specs.declared.ids.ReferenceId.{ReferenceId}
+use Rattle.oxt_names.specs.declared.ids.ScopeId.{ScopeId}
+use Rattle.oxt_names.specs.declared.ids.SymbolId.{SymbolId}
 use Rattle.oxt_told.specs.Source.{all_told, bare_at, bares, block_told, is_reversed, members_told, name_in, symbol_told, value_of}
 use Rattle.oxt_told.specs.Syntax.{is_pure}
 use Rattle.oxt_tree.specs.Doc.{Doc, Docs}

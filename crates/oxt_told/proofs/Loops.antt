@@ -1,9 +1,10 @@
 -- Lists of parts and of references, one after another.
-use Rattle.std.proofs.Common.{◌≡◌, ◌∙◌, refl, sym, ap, ℕ, ◌+◌, ◌<◌, ◌≤◌, List, [], ◌∷◌, ◌++◌, length, get_or, drop, false, ◌||◌, Option, None, nat_eq}
+use Rattle.std.proofs.Common.{◌≡◌, ◌∙◌, refl, sym, ap, ℕ, ◌+◌, ◌<◌, ◌≤◌, List, [], ◌∷◌, ◌++◌, length, get_or, drop, Bool, false, ◌||◌, Option, nat_eq}
 use Rattle.indexmap.specs.IndexMap.{insert_entry}
 use Rattle.oxt_facts.specs.Told.{Tellings}
 use Rattle.oxt_scoping.specs.Scoped.{Scoped, live_at}
-use Rattle.oxt_symbol.specs.declared.ids.ReferenceId.{ReferenceId}
+use Rattle.oxt_names.specs.declared.ids.ReferenceId.{ReferenceId}
+use Rattle.oxt_told.specs.Modules.{specifier_told, specifiers_told, statement_told, statements_told}
 use Rattle.oxt_told.specs.Source.{all_told, bare_at, bares, member_name, member_told, members_told, told_in, told_in_each}
 use Rattle.oxt_told.specs.Syntax.{is_text_form, some_text_form}
 use Rattle.oxt_tree.proofs.Lists.{drop_at, drop_end}
@@ -73,3 +74,33 @@ pub each_done : (s : Scoped) (f : List ℕ) (ts : Tellings) (ps : List Part) (i 
 each_done s f ts ps i le = ap (λ qs. all_told ts (told_in_each s f (docs_in qs))) (drop_end ps i le)
 
 pub ruleset each_steps = (each_more, each_done)
+
+-- ---- statements that import and export
+
+pub statement_more : (ks : ℕ → Bool) (all : Bool) (ts new : Tellings) (ps : List Part) (i : ℕ) (p : Part) → i < length ps → p ≡ get_or ps i p
+    → new ≡ all_told ts (statement_told ks all (part_doc p))
+    → all_told ts (statements_told ks all (docs_in (drop i ps))) ≡ all_told new (statements_told ks all (docs_in (drop (i + 1) ps)))
+statement_more ks all ts new ps i p lt here told =
+    ap (λ qs. all_told ts (statements_told ks all (docs_in qs))) (drop_at ps i p lt here)
+    ∙ all_told-append ts (statement_told ks all (part_doc p)) (statements_told ks all (docs_in (drop (i + 1) ps)))
+    ∙ ap (λ x. all_told x (statements_told ks all (docs_in (drop (i + 1) ps)))) (sym told)
+
+pub statement_done : (ks : ℕ → Bool) (all : Bool) (ts : Tellings) (ps : List Part) (i : ℕ) → length ps ≤ i → all_told ts (statements_told ks all (docs_in (drop i ps))) ≡ ts
+statement_done ks all ts ps i le = ap (λ qs. all_told ts (statements_told ks all (docs_in qs))) (drop_end ps i le)
+
+pub ruleset statement_steps = (statement_more, statement_done)
+
+-- ---- their specifiers
+
+pub specifier_more : (ks : ℕ → Bool) (ts new : Tellings) (ps : List Part) (i : ℕ) (p : Part) → i < length ps → p ≡ get_or ps i p
+    → new ≡ all_told ts (specifier_told ks (part_doc p))
+    → all_told ts (specifiers_told ks (docs_in (drop i ps))) ≡ all_told new (specifiers_told ks (docs_in (drop (i + 1) ps)))
+specifier_more ks ts new ps i p lt here told =
+    ap (λ qs. all_told ts (specifiers_told ks (docs_in qs))) (drop_at ps i p lt here)
+    ∙ all_told-append ts (specifier_told ks (part_doc p)) (specifiers_told ks (docs_in (drop (i + 1) ps)))
+    ∙ ap (λ x. all_told x (specifiers_told ks (docs_in (drop (i + 1) ps)))) (sym told)
+
+pub specifier_done : (ks : ℕ → Bool) (ts : Tellings) (ps : List Part) (i : ℕ) → length ps ≤ i → all_told ts (specifiers_told ks (docs_in (drop i ps))) ≡ ts
+specifier_done ks ts ps i le = ap (λ qs. all_told ts (specifiers_told ks (docs_in qs))) (drop_end ps i le)
+
+pub ruleset specifier_steps = (specifier_more, specifier_done)

@@ -1,17 +1,17 @@
 -- What is told of the enums of a source, by its table of scopes and symbols and the blocks that are first.
-use Rattle.std.specs.Prelude.{ℕ, ◌==◌, List, [], ◌∷◌, ◌++◌, Bool, true, false, not, ◌&&◌, if◌then◌else◌, nat_eq, Option, None, Some, option_map, codes}
+use Rattle.std.specs.Prelude.{ℕ, ◌==◌, List, [], ◌∷◌, ◌++◌, Bool, true, false, not, ◌&&◌, if◌then◌else◌, nat_eq, Option, None, Some, codes}
 use Rattle.indexmap.specs.IndexMap.{insert_entry}
-use Rattle.oxt_facts.specs.Told.{Tellings, Telling, Value, block, member, bare, constant, following, written}
-use Rattle.oxt_kept.specs.Names.{declared_symbol}
-use Rattle.oxt_plan.specs.Facts.{is_in}
+use Rattle.oxt_facts.specs.Told.{Tellings, Value, block, member, bare, constant, following, written}
+use Rattle.oxt_modules.specs.Names.{declared_symbol}
+use Rattle.oxt_options.specs.Facts.{is_in}
 use Rattle.oxt_scoping.specs.Entries.{SymbolData}
 use Rattle.oxt_scoping.specs.Scoped.{Scoped, live_at}
 use Rattle.oxt_scoping.specs.declared.entry.Reference.{Reference}
-use Rattle.oxt_symbol.specs.Constant.{Constant, integer, string}
-use Rattle.oxt_symbol.specs.declared.ids.ReferenceId.{ReferenceId}
-use Rattle.oxt_table.specs.Places.{same_kind}
-use Rattle.oxt_table.specs.declared.kind.Kind.{Kind}
-use Rattle.oxt_table.specs.declared.kind.Kind.TheVariants as kind
+use Rattle.oxt_names.specs.Constant.{Constant, integer, string}
+use Rattle.oxt_names.specs.declared.ids.ReferenceId.{ReferenceId}
+use Rattle.oxt_grammar.specs.Places.{same_kind}
+use Rattle.oxt_grammar.specs.declared.kind.Kind.{Kind}
+use Rattle.oxt_grammar.specs.declared.kind.Kind.TheVariants as kind
 use Rattle.oxt_told.specs.Syntax.{is_pure, is_text_form}
 use Rattle.oxt_tree.specs.Doc.{Doc, nil, flag, number, text, list, node, Docs, no_docs, doc}
 use Rattle.oxt_tree.specs.Fields.{elements, field_of, is_nil, named}

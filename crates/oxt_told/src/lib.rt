@@ -1,6 +1,8 @@
-//! What is told of the enums of a source: of their blocks, their members and the bare names that mean members.
+//! What is told of a source: of the blocks of its enums, their members and the bare names that mean members, and of the
+//! imports, exports and specifiers that go.
 #![tactic(auto)]
 
 mod members;
+pub mod modules;
 mod syntax;
 pub mod told;

@@ -2,9 +2,9 @@
 ghost use Rattle.std.specs.Prelude.{◌≡◌, ◌<◌, None, OnOk, IfOk, codes, length, nat_eq, option_map, slice_get};
 ghost use Rattle.indexmap.specs.IndexMap.{insert_entry};
 ghost use Rattle.oxt_facts.specs.Told.{member, value_view};
-ghost use Rattle.oxt_kept.specs.Names.{declared_symbol};
+ghost use Rattle.oxt_modules.specs.Names.{declared_symbol};
 ghost use Rattle.oxt_scoping.specs.Scoped.{live_at};
-ghost use Rattle.oxt_symbol.specs.Constant.{constant_view};
+ghost use Rattle.oxt_names.specs.Constant.{constant_view};
 ghost use Rattle.oxt_told.specs.Source.{all_told, bare_at, bares, following_or, is_reversed, is_text_constant, member_name, member_told, members_told, name_in, symbol_told, value_of};
 ghost use Rattle.oxt_tree.specs.Fields.{named};
 ghost use Rattle.oxt_tree.specs.Names.{name_bytes};
@@ -12,9 +12,9 @@ ghost use Rattle.oxt_tree.specs.View.{docs_in, doc_or_nil, part_doc};
 
 use crate::syntax::has_text_form;
 use oxt_facts::told::{MemberValue, Told, ToldMember, ToldNodes};
+use oxt_names::constant::ConstantValue;
+use oxt_names::ids::{ReferenceId, SymbolId};
 use oxt_scoping::scoping::Scoping;
-use oxt_symbol::constant::ConstantValue;
-use oxt_symbol::ids::{ReferenceId, SymbolId};
 use oxt_tree::ids::{NodeId, OutOfMemory};
 use oxt_tree::name::Name;
 use oxt_tree::tree::{Node, Part};

@@ -5,7 +5,7 @@ ghost use Rattle.oxt_told.specs.Syntax.{is_calling, is_joining, is_pure, is_text
 ghost use Rattle.oxt_tree.specs.Fields.{is_kind, named};
 ghost use Rattle.oxt_tree.specs.View.{docs_in, doc_or_nil, part_doc};
 
-use oxt_table::kind::Kind;
+use oxt_grammar::kind::Kind;
 use oxt_tree::tree::{Node, Part};
 
 /// Whether none of the members has a call as its initializer.

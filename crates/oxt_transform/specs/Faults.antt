@@ -1,7 +1,7 @@
 -- What a fault says of the bytes.
 pub use Rattle.oxt_check.specs.Faults.{refusal_in}
 use Rattle.std.specs.Prelude.{ℕ, List, Option, None, Some, ⊤}
-use Rattle.oxt_diagnostic.specs.declared.diagnostic.OxcDiagnostic.{OxcDiagnostic}
+use Rattle.oxt_tree.specs.declared.diagnostic.OxcDiagnostic.{OxcDiagnostic}
 use Rattle.oxt_json.specs.declared.read.ReadFault.{ReadFault}
 use Rattle.oxt_json.specs.declared.read.ReadFault.TheVariants as read_fault
 use Rattle.oxt_options.specs.Options.{TransformData}

@@ -1,6 +1,9 @@
+pub mod Expected
+pub mod Exports
 pub mod Faults
-pub mod Left
 pub mod Lowering
 pub mod Outcomes
+pub mod Places
+pub mod Plain
 pub mod Refusals
 pub mod Settings

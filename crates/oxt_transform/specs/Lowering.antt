@@ -1,54 +1,64 @@
 -- What lowering the bytes of a tree gives.
 use Rattle.std.specs.Prelude.{◌≡◌, ℕ, List, [], true, None}
 use Rattle.oxt_check.specs.Diagnostics.{diagnostics}
-use Rattle.oxt_diagnostic.specs.declared.diagnostic.OxcDiagnostic.{OxcDiagnostic}
-use Rattle.oxt_facts.specs.Facts.{of_output, of_source}
+use Rattle.oxt_tree.specs.declared.diagnostic.OxcDiagnostic.{OxcDiagnostic}
+use Rattle.oxt_facts.specs.Facts.{of_output, of_told_source}
 use Rattle.oxt_hygiene.specs.Keeps.{KeepsOwners}
 use Rattle.oxt_json.specs.Spelling.{reading, tree}
-use Rattle.oxt_json_write.specs.Spelled.{text_of}
-use Rattle.oxt_tree.specs.Syntax.{is_definition_file}
+use Rattle.oxt_json_write.specs.Spelled.{data_of, text_of}
+use Rattle.oxt_told.specs.Modules.{told_of_modules}
+use Rattle.oxt_laws.specs.Numbers.{unnumbered}
 use Rattle.oxt_options.specs.Options.{TransformData}
 use Rattle.oxt_resolve.specs.Resolved.{resolved}
-use Rattle.oxt_targets.specs.Beside.{is_plain_beside}
-use Rattle.oxt_targets.specs.Targets.{is_listed, targets}
+use Rattle.oxt_grammar.specs.declared.category.Category.TheVariants as category
+use Rattle.oxt_grammar.specs.declared.holds.Holds.TheVariants as holds
+use Rattle.oxt_check.specs.Beside.{is_plain_beside}
+use Rattle.oxt_check.specs.Targets.{is_listed, targets}
 use Rattle.oxt_tree.specs.Doc.{Doc}
-use Rattle.oxt_transform.specs.Left.{HasLeft, fault_of, lowered, module_left}
-use Rattle.oxt_transform.specs.Refusals.{Judges, names_of}
-use Rattle.oxt_transform.specs.Settings.{settings_of, wrong_setting}
-use Rattle.oxt_unchanged.specs.Unchanged.{IsPlainSource, as_javascript}
+use Rattle.oxt_transform.specs.Expected.{expected_of, fault_of, keeps, names_of}
+use Rattle.oxt_transform.specs.Exports.{HasExports}
+use Rattle.oxt_transform.specs.Plain.{as_javascript, is_plain_source, leaves_javascript}
+use Rattle.oxt_transform.specs.Refusals.{Judges}
+use Rattle.oxt_transform.specs.Settings.{settings_by, wrong_setting}
 use Rattle.oxt_valid.specs.Plain.{is_plain}
 use Rattle.oxt_valid.specs.Valid.{is_tree}
 use Rattle.oxt_word.specs.Word.{word}
+use Rattle.serde_json.specs.Written.{IsInOrder}
 
--- The bytes spell a source tree, and the text is that of an output: a valid tree with the source's settings, plain
--- but for the wrappers around targets of which the diagnostics tell, with the effect word of what is left of the
--- source's imports and exports and of all else, and in which each name that is used has the owner that it had. Without its types
--- the output is as the source; where there are no diagnostics, it is plain, and the source as it is lowered under the options.
+-- no other tree of the grammar is written so: one that is differs in the numbers of its nodes alone
+abbrev pub IsTextOfOne : List ℕ → Doc → Type 0
+IsTextOfOne text output =
+    (other : Doc) → is_tree other ≡ true → IsInOrder text (data_of other) → unnumbered other ≡ unnumbered output
+
+-- The bytes spell a source tree, and the text is that of an output and of no other tree. The output is a tree of the
+-- grammar with the source's settings, plain but for the wrappers around targets of which the diagnostics tell; where
+-- there are none, it is plain. It has the effect word that the source has under the options, its `export {}` statements
+-- are the source's and the one that is due, and each name that is used has the owner that it had.
 pub record Lowers (options : TransformData) (bytes : List ℕ) (told : List OxcDiagnostic) (text : List ℕ) : Type 0 where
   pub source : Doc
   pub next : ℕ
   pub output : Doc
   pub spelled : reading bytes ≡ tree source next
   pub all_told : told ≡ diagnostics source
-  pub left : HasLeft (is_definition_file source) (module_left options next source) output
-  pub lowers : told ≡ [] → output ≡ lowered options next source
   pub valid : is_tree output ≡ true
-  pub plain_beside : is_plain_beside output (is_listed (targets source)) ≡ true
+  pub plain_beside : is_plain_beside output (holds.Node category.Program) (is_listed (targets source)) ≡ true
   pub plain : told ≡ [] → is_plain output ≡ true
-  pub settings : wrong_setting (settings_of source) output ≡ None
-  pub same_word : word (of_output (names_of source) output) output ≡ word of_source (module_left options next source)
+  pub settings : wrong_setting (settings_by (keeps options source) options.typescript.only_remove_type_imports source) output ≡ None
+  pub exports : HasExports (keeps options source) options.typescript.only_remove_type_imports source output
+  pub same_word : word (of_output (names_of source) output) output
+      ≡ word (of_told_source (told_of_modules (keeps options source) options.typescript.only_remove_type_imports source)) source
   pub same_owners : KeepsOwners options.typescript.only_remove_type_imports (resolved source) source output
   pub written : text ≡ text_of output
+  pub only : IsTextOfOne text output
 
--- Where all imports of values are kept, a plain tree of JavaScript comes back as it is, but that it says so.
+-- Where the options leave JavaScript as it is, a plain tree comes back as it is, but that it says to be JavaScript.
 abbrev pub ReturnsPlain : TransformData → List ℕ → List ℕ → Type 0
 ReturnsPlain o bytes text =
-    (source : Doc) (next : ℕ) → reading bytes ≡ tree source next → o.typescript.only_remove_type_imports ≡ true
-    → IsPlainSource source → text ≡ text_of (as_javascript source)
+    (source : Doc) (next : ℕ) → reading bytes ≡ tree source next → leaves_javascript o ≡ true
+    → is_plain_source source ≡ true → text ≡ text_of (as_javascript source)
 
--- The source, whose next number that is, has no fault, and the same is left of the output, which passes its test.
-pub record Passes (options : TransformData) (next : ℕ) (source output : Doc) : Type 0 where
+-- The source has no fault, and the output passes its test.
+pub record Passes (options : TransformData) (source output : Doc) : Type 0 where
   pub faultless : fault_of source ≡ None
-  pub left : HasLeft (is_definition_file source) (module_left options next source) output
-  pub judged : Judges (word of_source (module_left options next source)) (names_of source) (settings_of source) (targets source) None output None
+  pub judged : Judges (expected_of options source) None output None
   pub owners : KeepsOwners options.typescript.only_remove_type_imports (resolved source) source output

@@ -1,8 +1,8 @@
 -- What a run answers, and what that says of the words, the source and the sinks.
 use Rattle.std.specs.Prelude.{◌≡◌, ◌≤◌, ℕ, Bool, true, false, not, ◌==◌, List, [], ◌∷◌, ◌++◌, length, map, Option, Some, codes, ⊤}
 use Rattle.std.specs.Io.KnownBytes.{Appends}
-use Rattle.oxt_diagnostic.specs.Line.{lines_of}
-use Rattle.oxt_diagnostic.specs.declared.diagnostic.OxcDiagnostic.{OxcDiagnostic}
+use Rattle.oxt_tree.specs.Line.{lines_of}
+use Rattle.oxt_tree.specs.declared.diagnostic.OxcDiagnostic.{OxcDiagnostic}
 use Rattle.oxt_flags.specs.Flags.{parsed}
 use Rattle.oxt_io.specs.Counts.{Rose}
 use Rattle.oxt_io.specs.Passed.{GaveAll, AppendsPrefix}
@@ -209,6 +209,7 @@ pub record AnswerCut (words : List Name) (left left' taken taken' message messag
   pub told : List OxcDiagnostic
   pub text : List ℕ
   pub read : GaveAll left left' bytes
+  pub within : length bytes ≤ limit
   pub lowered : Lowers options bytes told text
   pub prefix : AppendsPrefix taken taken' (answer_of text told)
   pub quiet : message' ≡ message
@@ -220,6 +221,7 @@ pub record RefusalCut (words : List Name) (left left' taken taken' message messa
   pub bytes : List ℕ
   pub refusal : Refusal
   pub read : GaveAll left left' bytes
+  pub within : length bytes ≤ limit
   pub cause : Refuses refusal options bytes
   pub prefix : AppendsPrefix message message' (line_of refusal)
   pub quiet : taken' ≡ taken

@@ -1,9 +1,12 @@
 -- The settings of a program, which are no part of its word.
-use Rattle.std.specs.Prelude.{List, ℕ, Bool, true, false, not, if◌then◌else◌, Option, None, Some, codes}
+use Rattle.std.specs.Prelude.{List, ℕ, Bool, true, false, not, ◌&&◌, ◌||◌, if◌then◌else◌, Option, None, Some, codes}
+use Rattle.oxt_modules.specs.Due.{is_export_due}
 use Rattle.oxt_tree.specs.Syntax.{is_definition_file}
-use Rattle.oxt_transform.specs.declared.certificate.Settings.{Settings}
-use Rattle.oxt_tree.specs.Doc.{Doc}
+use Rattle.oxt_transform.specs.Exports.{body, empty_exports, ends_in_export, exports_left, same_spans}
+use Rattle.oxt_transform.specs.declared.settings.Settings.{Settings}
+use Rattle.oxt_tree.specs.Doc.{Doc, Docs}
 use Rattle.oxt_tree.specs.Fields.{field_of, is_text}
+use Rattle.oxt_tree.specs.declared.ids.Span.{Span}
 
 -- a script, and no module
 abbrev pub is_script : Doc → Bool
@@ -17,25 +20,41 @@ abbrev pub differs : Bool → Bool → Bool
 differs true b = not b
 differs false b = b
 
--- what is known of the settings of a source: that it is a script, and that it is a file of definitions
+-- the settings that an output is to have: whether its source is a script, whether that is a file of definitions, where
+-- the `export {}` statements of its body are to stand, and whether one is to be the last statement
 pub record SettingsData : Type 0 where
   pub script : Bool
   pub definitions : Bool
+  pub exports : List Span
+  pub export_due : Bool
 
 abbrev pub settings_view : Settings → SettingsData
-settings_view s = record { script = s.script; definitions = s.definitions }
+settings_view s = record { script = s.script; definitions = s.definitions; exports = s.exports.items; export_due = s.export_due }
 
-abbrev pub settings_of : Doc → SettingsData
-settings_of source = record { script = is_script source; definitions = is_definition_file source }
+-- those of the output of a source of which these specifiers are kept; the flag says whether only imports that say so
+-- themselves are imports of types
+abbrev pub settings_by : (ℕ → Bool) → Bool → Doc → SettingsData
+settings_by ks all source =
+    record {
+      script = is_script source;
+      definitions = is_definition_file source;
+      exports = exports_left (is_export_due ks all source) source;
+      export_due = is_export_due ks all source;
+    }
 
 -- a file of definitions where the source is one, and else JavaScript
 abbrev pub has_language : Bool → Doc → Bool
 has_language definitions output = if definitions then is_definition_file output else is_javascript output
 
--- The setting in which a lowered program is wrong: it is a script exactly where its source is one, and a
--- file of definitions where its source is one, and else JavaScript.
+-- the `export {}` statements stand where they are to stand
+abbrev pub has_exports : SettingsData → Docs → Bool
+has_exports s ds = same_spans (empty_exports ds) s.exports && (not s.export_due || ends_in_export ds)
+
+-- The setting in which a lowered program is wrong: it is a script exactly where its source is one; a file of
+-- definitions where its source is one, and else JavaScript; and its body has the `export {}` statements that are due.
 abbrev pub wrong_setting : SettingsData → Doc → Option (List ℕ)
 wrong_setting s output =
     if differs s.script (is_script output) then Some (codes "/sourceType")
-    else if has_language s.definitions output then None
-    else Some (codes "/lang")
+    else if not (has_language s.definitions output) then Some (codes "/lang")
+    else if has_exports s (body output) then None
+    else Some (codes "/body")

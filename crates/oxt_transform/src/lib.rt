@@ -2,11 +2,17 @@
 #![tactic(auto)]
 
 pub mod certificate;
+pub mod expected;
+mod exports;
 pub mod fault;
+mod passes;
+mod plain_source;
 pub mod program;
+pub mod settings;
 pub mod transform;
-mod walking;
+pub mod typescript;
 
+pub use crate::typescript::TypeScript;
 pub use certificate::Mismatch;
 pub use fault::Fault;
 pub use oxt_io::{
@@ -15,6 +21,5 @@ pub use oxt_io::{
 pub use oxt_options::{DecoratorOptions, Module, RewriteExtensionsMode, TypeScriptOptions};
 pub use oxt_tree::ids::OutOfMemory;
 pub use oxt_tree::name::Name;
-pub use oxt_typescript::typescript::TypeScript;
 pub use program::{Outcome, run};
 pub use transform::{TransformOptions, TransformerReturn, transform_text};

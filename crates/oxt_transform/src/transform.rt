@@ -1,19 +1,36 @@
 //! The work on one tree.
-ghost use Rattle.std.specs.Prelude.{◌≡◌, IfOk, IfErr, OnOk};
+ghost use Rattle.std.specs.Prelude.{◌≡◌, IfOk, IfErr, None, OnOk, true};
+ghost use Rattle.oxt_check.specs.Diagnostics.{diagnostics};
+ghost use Rattle.oxt_check.specs.Faults.{IsFaultOf, facts_of};
+ghost use Rattle.oxt_json.specs.Spelling.{reading, tree};
+ghost use Rattle.oxt_json_write.specs.Spelled.{text_of};
 ghost use Rattle.oxt_options.specs.Options.{transform_view};
+ghost use Rattle.oxt_options.specs.Facts.{Answers};
+ghost use Rattle.oxt_resolve.specs.Resolved.{resolved};
+ghost use Rattle.oxt_transform.specs.Expected.{fault_of};
 ghost use Rattle.oxt_transform.specs.Faults.{refusal_in, IsReasonFor, text_in, told_in};
-ghost use Rattle.oxt_transform.specs.Lowering.{Lowers, ReturnsPlain};
+ghost use Rattle.oxt_transform.specs.Lowering.{IsTextOfOne, Lowers, Passes, ReturnsPlain};
 ghost use Rattle.oxt_transform.specs.Outcomes.{answer_of};
-ghost use Rattle.oxt_transform.specs.Refusals.{Accepts};
+ghost use Rattle.oxt_transform.specs.Plain.{ComesBack};
+ghost use Rattle.oxt_transform.specs.Refusals.{Accepts, IsHindrance};
+ghost use Rattle.oxt_tree.specs.View.{node_doc};
+ghost use Rattle.oxt_valid.specs.Valid.{is_tree};
 
+use crate::certificate::certify;
+use crate::expected::Expected;
 use crate::fault::{Fault, fault_of_reading};
-use crate::walking::lower_by_walk;
-use oxt_diagnostic::diagnostic::OxcDiagnostic;
-use oxt_diagnostic::lines::append_lines;
+use crate::passes::{Tables, rewrite};
+use oxt_check::check;
+use oxt_check::diagnose::diagnostics_of;
 use oxt_json::read_tree;
 use oxt_json_write::write_tree;
+use oxt_laws::text_tells_trees;
 pub use oxt_options::TransformOptions;
+use oxt_resolve::resolve::resolve;
+use oxt_tree::diagnostic::OxcDiagnostic;
 use oxt_tree::ids::OutOfMemory;
+use oxt_tree::lines::append_lines;
+use oxt_tree::tree::Program;
 use std::alloc::Global;
 
 /// The tree that came out, and what its writer is told.
@@ -56,13 +73,13 @@ impl TransformerReturn {
     }
 }
 
-/// Lowers the tree that the bytes spell to plain JavaScript.
-///
-/// The passes lower it in one walk, and what comes out is tested before it is written.
+/// Lowers the tree that the bytes spell to plain JavaScript: it is read, lowered with what is known of it, tested, and
+/// written.
 ///
 /// A wrapper around a target that may not be assigned to stays, and a diagnostic tells of it.
 ///
-/// Of the options act `only_remove_type_imports`, `jsx_pragma` and `jsx_pragma_frag` so far.
+/// Of the options act `only_remove_type_imports`, `jsx_pragma` and `jsx_pragma_frag` so far; the others say only which
+/// programs are left alone.
 ///
 /// # Errors
 ///
@@ -83,7 +100,88 @@ pub fn transform_text(
         Ok(program) => program,
         Err(fault) => return Err(fault_of_reading(fault)),
     };
-    let diagnostics = lower_by_walk(alloc, &mut program, options)?;
-    let bytes = write_tree(alloc, &program)?;
+    let diagnostics = lower(alloc, &mut program, options)?;
+    let bytes = write(alloc, &program)?;
     Ok(TransformerReturn { bytes, diagnostics })
+}
+
+/// Lowers the program: its names are resolved, it is checked, its effect word is read, it is rewritten, and what came
+/// out is tested; gives what its writer is told.
+///
+/// # Errors
+///
+/// The first fault of the source, or how its output fails its test; nothing else but want of memory.
+fn lower(
+    alloc: Global,
+    program: &mut Program,
+    options: &TransformOptions,
+) -> Result<Vec<OxcDiagnostic>, Fault>
+    ensures passes { OnOk result (Passes (transform_view options.now)
+        (node_doc program.old.root) (node_doc program.new.root)) }
+    ensures told { IfOk result (λ told. told.items ≡ diagnostics (node_doc program.old.root)) }
+    ensures comes_back { OnOk result (ComesBack (transform_view options.now)
+        (node_doc program.old.root) (node_doc program.new.root)) }
+    ensures refused { IfErr result
+        (λ f. IsHindrance (refusal_in f) (transform_view options.now) (node_doc program.old.root)) }
+{
+    let tables = match resolve_and_check(alloc, program, options) {
+        Ok(tables) => tables,
+        Err(fault) => return Err(fault),
+    };
+    let expected = match Expected::of(
+        alloc,
+        &program.root,
+        &tables.scoping,
+        &tables.plan,
+        options.typescript.only_remove_type_imports,
+    ) {
+        Ok(expected) => expected,
+        Err(_) => return Err(Fault::OutOfMemory),
+    };
+    match rewrite(alloc, program, options, tables) {
+        Ok(()) => {}
+        Err(_) => return Err(Fault::OutOfMemory),
+    }
+    match certify(alloc, &expected, &program.root) {
+        Ok(()) => {}
+        Err(fault) => return Err(fault),
+    }
+    match diagnostics_of(alloc, &expected.targets) {
+        Ok(told) => Ok(told),
+        Err(_) => Err(Fault::OutOfMemory),
+    }
+}
+
+/// Resolves the names of the program, and checks it.
+///
+/// # Errors
+///
+/// The first fault of the program; nothing else but want of memory.
+fn resolve_and_check(
+    alloc: Global,
+    program: &Program,
+    options: &TransformOptions,
+) -> Result<Tables, Fault>
+    ensures table { IfOk result (λ t. t.scoping ≡ resolved (node_doc program.now.root)) }
+    ensures plan { IfOk result (λ t. Answers t.plan
+        (facts_of t.scoping (node_doc program.now.root) (transform_view options.now))) }
+    ensures accepted { OnOk result (fault_of (node_doc program.now.root) ≡ None) }
+    ensures refused { IfErr result (λ f. IsFaultOf (refusal_in f) (resolved (node_doc program.now.root)) (node_doc program.now.root)) }
+{
+    let scoping = resolve(alloc, &program.root)?;
+    match check(alloc, program, &scoping, options) {
+        Ok(plan) => Ok(Tables { scoping, plan }),
+        Err(fault) => Err(fault),
+    }
+}
+
+/// Writes the program, which is then the only one with these bytes.
+fn write(alloc: Global, program: &Program) -> Result<Vec<u8>, OutOfMemory>
+    ensures text { IfOk result (λ bytes. bytes.items ≡ text_of (node_doc program.now.root)) }
+    ensures only { IfOk result (λ bytes. is_tree (node_doc program.now.root) ≡ true
+        → IsTextOfOne bytes.items (node_doc program.now.root)) }
+{
+    let bytes = write_tree(alloc, program)?;
+    text_tells_trees();
+    Ok(bytes)
 }

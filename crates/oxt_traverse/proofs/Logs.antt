@@ -1,9 +1,10 @@
 -- Logs, one visit after another.
-use Rattle.std.proofs.Common.{◌≡◌, refl, sym, ◌∙◌, List, [], ◌∷◌, ◌++◌, Bool, true, ap, append_assoc, append-nil}
+use Rattle.std.proofs.Common.{◌≡◌, refl, sym, ◌∙◌, List, [], ◌∷◌, ◌++◌, ap, append_assoc, append-nil}
 use Rattle.std.specs.Prelude.{Result, Ok, Err, OnOk}
-use Rattle.oxt_table.specs.declared.category.Category.{Category}
+use Rattle.oxt_grammar.specs.declared.category.Category.{Category}
+use Rattle.oxt_ctx.specs.Context.{Context}
 use Rattle.oxt_traverse.specs.Reached.{at_place, from_place}
-use Rattle.oxt_traverse.specs.Reading.{IsWatching}
+use Rattle.oxt_traverse.specs.Level.{IsUntouched}
 use Rattle.oxt_traverse.specs.Visits.{HasLogged, Visit, by_kind, by_kind_left, entered, left, traces, visits_by}
 use Rattle.oxt_traverse.specs.declared.hook.Hook.{Hook}
 use Rattle.oxt_tree.specs.Doc.{Doc}
@@ -20,14 +21,14 @@ traces_both trace (v ∷ vs) ws =
     ap (λ ts. trace v ++ ts) (traces_both trace vs ws) ∙ sym (append_assoc (trace v) (traces trace vs) (traces trace ws))
 
 -- one visit
-pub logged_one : (watches : Bool) (trace : Visit → List Visit) (a b : List Visit) (v : Visit) → b ≡ a ++ trace v → HasLogged watches trace a b (v ∷ [])
-logged_one watches trace a b v grown = record {
+pub logged_one : (Premise : Type 0) (trace : Visit → List Visit) (a b : List Visit) (v : Visit) → b ≡ a ++ trace v → HasLogged Premise trace a b (v ∷ [])
+logged_one Premise trace a b v grown = record {
   grown = λ w. grown ∙ ap (λ ts. a ++ ts) (sym (append-nil (trace v)));
 }
 
 -- none
-pub logged_none : (watches : Bool) (trace : Visit → List Visit) (a : List Visit) → HasLogged watches trace a a []
-logged_none watches trace a = record { grown = λ w. sym (append-nil a) }
+pub logged_none : (Premise : Type 0) (trace : Visit → List Visit) (a : List Visit) → HasLogged Premise trace a a []
+logged_none Premise trace a = record { grown = λ w. sym (append-nil a) }
 
 both_grown : (trace : Visit → List Visit) (a b c vs ws : List Visit) → b ≡ a ++ traces trace vs → c ≡ b ++ traces trace ws → c ≡ a ++ traces trace (vs ++ ws)
 both_grown trace a b c vs ws first second =
@@ -37,27 +38,22 @@ both_grown trace a b c vs ws first second =
     ∙ ap (λ ts. a ++ ts) (sym (traces_both trace vs ws))))
 
 -- the ones and then the others
-pub logged_on : (watches : Bool) (trace : Visit → List Visit) (a b c vs ws : List Visit) → HasLogged watches trace a b vs → HasLogged watches trace b c ws → HasLogged watches trace a c (vs ++ ws)
-logged_on watches trace a b c vs ws first second = record {
+pub logged_on : (Premise : Type 0) (trace : Visit → List Visit) (a b c vs ws : List Visit) → HasLogged Premise trace a b vs → HasLogged Premise trace b c ws → HasLogged Premise trace a c (vs ++ ws)
+logged_on Premise trace a b c vs ws first second = record {
   grown = λ w. both_grown trace a b c vs ws (first.grown w) (second.grown w);
 }
 
 -- the same visits in other words
-pub logged_as : (watches : Bool) (trace : Visit → List Visit) (a b vs ws : List Visit) → (watches ≡ true → vs ≡ ws) → HasLogged watches trace a b vs → HasLogged watches trace a b ws
-logged_as watches trace a b vs ws same logged = record {
+pub logged_as : (Premise : Type 0) (trace : Visit → List Visit) (a b vs ws : List Visit) → (Premise → vs ≡ ws) → HasLogged Premise trace a b vs → HasLogged Premise trace a b ws
+logged_as Premise trace a b vs ws same logged = record {
   grown = λ w. logged.grown w ∙ ap (λ us. a ++ traces trace us) (same w);
 }
-
--- what a pass that watches leaves is what was there
-pub same_doc : (read : Doc → Doc) (watches quiet : Bool) → IsWatching watches read quiet → (d e : Doc) → read d ≡ read e → watches ≡ true → d ≡ e
-same_doc read watches quiet watching d e same w =
-    sym (watching.sees_all w d) ∙ (same ∙ watching.sees_all w e)
 
 -- ---- what is left
 
 -- The log has all once it has what is left.
-pub record Remains (watches : Bool) (trace : Visit → List Visit) (before now all rest : List Visit) : Type 0 where
-  pub whole : watches ≡ true → now ++ traces trace rest ≡ before ++ traces trace all
+pub record Remains (Premise : Type 0) (trace : Visit → List Visit) (before now all rest : List Visit) : Type 0 where
+  pub whole : Premise → now ++ traces trace rest ≡ before ++ traces trace all
 
 one_less : (trace : Visit → List Visit) (a b c vs one rest : List Visit) → b ++ traces trace (one ++ rest) ≡ a ++ traces trace vs → c ≡ b ++ traces trace one → c ++ traces trace rest ≡ a ++ traces trace vs
 one_less trace a b c vs one rest before grown =
@@ -67,29 +63,50 @@ one_less trace a b c vs one rest before grown =
     ∙ before))
 
 -- less is left
-pub rest_more : (watches : Bool) (trace : Visit → List Visit) (a b c all old one rest : List Visit) → old ≡ one ++ rest → Remains watches trace a b all old → HasLogged watches trace b c one → Remains watches trace a c all rest
-rest_more watches trace a b c all old one rest split before logged = record {
+pub rest_more : (Premise : Type 0) (trace : Visit → List Visit) (a b c all old one rest : List Visit) → old ≡ one ++ rest → Remains Premise trace a b all old → HasLogged Premise trace b c one → Remains Premise trace a c all rest
+rest_more Premise trace a b c all old one rest split before logged = record {
   whole = λ w. one_less trace a b c all one rest (ap (λ vs. b ++ traces trace vs) (sym split) ∙ before.whole w) (logged.grown w);
 }
 
 -- nothing is left
-pub rest_none : (watches : Bool) (trace : Visit → List Visit) (a b all rest : List Visit) → rest ≡ [] → Remains watches trace a b all rest → HasLogged watches trace a b all
-rest_none watches trace a b all rest none before = record {
+pub rest_none : (Premise : Type 0) (trace : Visit → List Visit) (a b all rest : List Visit) → rest ≡ [] → Remains Premise trace a b all rest → HasLogged Premise trace a b all
+rest_none Premise trace a b all rest none before = record {
   grown = λ w. sym (append-nil b) ∙ (ap (λ vs. b ++ traces trace vs) (sym none) ∙ before.whole w);
 }
 
 -- ---- the hooks of a node
 
 -- before its parts: those of its kind are handed what those of its place have left
-pub entered_logged : (watches : Bool) (trace : Visit → List Visit) (a b l : List Visit) (p : Category) (hs gs : List Hook) (d e : Doc) → (watches ≡ true → e ≡ d) → hs ≡ at_place p → visits_by gs e ≡ by_kind e → HasLogged watches trace a b (visits_by hs d) → HasLogged watches trace b l (visits_by gs e) → HasLogged watches trace a l (entered p d)
-entered_logged watches trace a b l p hs gs d e same of_place of_kind first second =
-    logged_on watches trace a b l (visits_by (at_place p) d) (by_kind d)
-    (logged_as watches trace a b (visits_by hs d) (visits_by (at_place p) d) (λ w. ap (λ xs. visits_by xs d) of_place) first)
-    (logged_as watches trace b l (visits_by gs e) (by_kind d) (λ w. of_kind ∙ ap by_kind (same w)) second)
+pub entered_logged : (Premise : Type 0) (trace : Visit → List Visit) (a b l : List Visit) (p : Category) (hs gs : List Hook) (d e : Doc) → (Premise → e ≡ d) → hs ≡ at_place p → visits_by gs e ≡ by_kind e → HasLogged Premise trace a b (visits_by hs d) → HasLogged Premise trace b l (visits_by gs e) → HasLogged Premise trace a l (entered p d)
+entered_logged Premise trace a b l p hs gs d e same of_place of_kind first second =
+    logged_on Premise trace a b l (visits_by (at_place p) d) (by_kind d)
+    (logged_as Premise trace a b (visits_by hs d) (visits_by (at_place p) d) (λ w. ap (λ xs. visits_by xs d) of_place) first)
+    (logged_as Premise trace b l (visits_by gs e) (by_kind d) (λ w. of_kind ∙ ap by_kind (same w)) second)
 
 -- after its parts: those of its place are handed what those of its kind have left
-pub left_logged : (watches : Bool) (trace : Visit → List Visit) (a b l : List Visit) (p : Category) (hs gs : List Hook) (d e : Doc) → (watches ≡ true → e ≡ d) → visits_by hs d ≡ by_kind_left d → gs ≡ from_place p → HasLogged watches trace a b (visits_by hs d) → HasLogged watches trace b l (visits_by gs e) → HasLogged watches trace a l (left p d)
-left_logged watches trace a b l p hs gs d e same of_kind of_place first second =
-    logged_on watches trace a b l (by_kind_left d) (visits_by (from_place p) d)
-    (logged_as watches trace a b (visits_by hs d) (by_kind_left d) (λ w. of_kind) first)
-    (logged_as watches trace b l (visits_by gs e) (visits_by (from_place p) d) (λ w. ap (λ xs. visits_by xs e) of_place ∙ ap (visits_by (from_place p)) (same w)) second)
+pub left_logged : (Premise : Type 0) (trace : Visit → List Visit) (a b l : List Visit) (p : Category) (hs gs : List Hook) (d e : Doc) → (Premise → e ≡ d) → visits_by hs d ≡ by_kind_left d → gs ≡ from_place p → HasLogged Premise trace a b (visits_by hs d) → HasLogged Premise trace b l (visits_by gs e) → HasLogged Premise trace a l (left p d)
+left_logged Premise trace a b l p hs gs d e same of_kind of_place first second =
+    logged_on Premise trace a b l (by_kind_left d) (visits_by (from_place p) d)
+    (logged_as Premise trace a b (visits_by hs d) (by_kind_left d) (λ w. of_kind) first)
+    (logged_as Premise trace b l (visits_by gs e) (visits_by (from_place p) d) (λ w. ap (λ xs. visits_by xs e) of_place ∙ ap (visits_by (from_place p)) (same w)) second)
+
+-- ---- under premises
+
+-- what holds under a premise holds under a stronger one
+pub logged_under : {Premise Weaker : Type 0} (trace : Visit → List Visit) (a b vs : List Visit) → (Premise → Weaker) → HasLogged Weaker trace a b vs → HasLogged Premise trace a b vs
+logged_under trace a b vs so logged = record { grown = λ s. logged.grown (so s) }
+
+pub untouched_under : {Premise Weaker : Type 0} (d e : Doc) (a b : Context) → (Premise → Weaker) → IsUntouched Weaker d e a b → IsUntouched Premise d e a b
+untouched_under d e a b so untouched = record {
+  document = λ s. untouched.document (so s);
+  waiting = λ s. untouched.waiting (so s);
+  declarators = λ s. untouched.declarators (so s);
+}
+
+-- one step after another
+pub untouched_on : (Premise : Type 0) (d e f : Doc) (a b c : Context) → IsUntouched Premise d e a b → IsUntouched Premise e f b c → IsUntouched Premise d f a c
+untouched_on Premise d e f a b c first second = record {
+  document = λ s. second.document s ∙ first.document s;
+  waiting = λ s n. second.waiting s n ∙ first.waiting s n;
+  declarators = λ s. second.declarators s ∙ first.declarators s;
+}

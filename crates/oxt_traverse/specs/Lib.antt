@@ -1,4 +1,3 @@
 pub mod Level
 pub mod Reached
-pub mod Reading
 pub mod Visits

@@ -1,10 +1,10 @@
 -- Which hooks a node reaches.
 use Rattle.std.specs.Prelude.{Bool, true, List, [], ◌∷◌}
-use Rattle.oxt_table.specs.Places.{kind_in}
-use Rattle.oxt_table.specs.declared.category.Category.{Category}
-use Rattle.oxt_table.specs.declared.category.Category.TheVariants as category
-use Rattle.oxt_table.specs.declared.kind.Kind.{Kind}
-use Rattle.oxt_table.specs.declared.kind.Kind.TheVariants as kind
+use Rattle.oxt_grammar.specs.Places.{kind_in}
+use Rattle.oxt_grammar.specs.declared.category.Category.{Category}
+use Rattle.oxt_grammar.specs.declared.category.Category.TheVariants as category
+use Rattle.oxt_grammar.specs.declared.kind.Kind.{Kind}
+use Rattle.oxt_grammar.specs.declared.kind.Kind.TheVariants as kind
 use Rattle.oxt_traverse.specs.declared.hook.Hook.{Hook}
 use Rattle.oxt_traverse.specs.declared.hook.Hook.TheVariants as hook
 

@@ -1,7 +1,7 @@
 -- Which hooks run at a document.
 use Rattle.std.specs.Prelude.{◌≡◌, List, [], ◌∷◌, ◌++◌, Bool, true, false, if◌then◌else◌}
-use Rattle.oxt_table.specs.declared.category.Category.{Category}
-use Rattle.oxt_table.specs.declared.kind.Kind.{Kind}
+use Rattle.oxt_grammar.specs.declared.category.Category.{Category}
+use Rattle.oxt_grammar.specs.declared.kind.Kind.{Kind}
 use Rattle.oxt_traverse.specs.Reached.{as_kind, as_left, at_place, from_place, wants}
 use Rattle.oxt_traverse.specs.declared.hook.Hook.{Hook}
 use Rattle.oxt_tree.specs.Doc.{Doc, node}
@@ -43,6 +43,6 @@ abbrev pub traces : (Visit → List Visit) → List Visit → List Visit
 traces trace [] = []
 traces trace (v ∷ vs) = trace v ++ traces trace vs
 
--- Where the pass watches, its log has grown by what it gets of the visits.
-pub record HasLogged (watches : Bool) (trace : Visit → List Visit) (before after visits : List Visit) : Type 0 where
-  pub grown : watches ≡ true → after ≡ before ++ traces trace visits
+-- Where the premise holds, the log has grown by what it gets of the visits.
+pub record HasLogged (Premise : Type 0) (trace : Visit → List Visit) (before after visits : List Visit) : Type 0 where
+  pub grown : Premise → after ≡ before ++ traces trace visits

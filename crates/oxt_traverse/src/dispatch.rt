@@ -1,15 +1,16 @@
 //! Running the hooks that a node reaches.
-ghost use Rattle.std.specs.Prelude.{◌≡◌, ◌++◌, OnOk};
-ghost use Rattle.oxt_traverse.specs.Level.{IsAside, IsLevel, IsOpen};
+ghost use Rattle.std.specs.Prelude.{◌≡◌, ◌++◌, OnOk, true};
+ghost use Rattle.oxt_traverse.specs.Level.{IsLevel, IsOpen, IsOpenAt, IsUntouched};
 ghost use Rattle.oxt_traverse.specs.Visits.{HasLogged, entered, left, visit, visits_by};
-ghost use Rattle.oxt_tree.specs.View.{node_doc};
+ghost use Rattle.oxt_tree.specs.Doc.{list};
+ghost use Rattle.oxt_tree.specs.View.{docs_in, node_doc};
 
 use crate::hook::{Hook, as_kind, as_left, at_place, from_place};
 use crate::traverse::Traverse;
 use oxt_ctx::context::TraverseCtx;
-use oxt_table::category::Category;
+use oxt_grammar::category::Category;
 use oxt_tree::ids::OutOfMemory;
-use oxt_tree::tree::Node;
+use oxt_tree::tree::{Node, Part};
 
 /// Runs the hooks that the node reaches before its parts: those of its place, and then those of the
 /// kind that it has by then.
@@ -21,9 +22,8 @@ pub fn enter_node<T: Traverse>(
 ) -> Result<(), OutOfMemory>
     requires open { IsOpen ctx.old }
     ensures level { OnOk result (IsLevel ctx.old ctx.new) }
-    ensures read { OnOk result (T.read (node_doc node.new) ≡ T.read (node_doc node.old)) }
-    ensures aside { OnOk result (IsAside T.quiet ctx.old ctx.new) }
-    ensures logged { OnOk result (HasLogged T.watches T.trace (T.log pass.old) (T.log pass.new) (entered place (node_doc node.old))) }
+    ensures untouched { OnOk result (IsUntouched (T.watches ≡ true) (node_doc node.old) (node_doc node.new) ctx.old ctx.new) }
+    ensures logged { OnOk result (HasLogged (T.watches ≡ true) T.trace (T.log pass.old) (T.log pass.new) (entered place (node_doc node.old))) }
 {
     run_wanted(pass, at_place(place), node, ctx)?;
     run_wanted(pass, as_kind(node.kind), node, ctx)
@@ -39,9 +39,8 @@ pub fn leave_node<T: Traverse>(
 ) -> Result<(), OutOfMemory>
     requires open { IsOpen ctx.old }
     ensures level { OnOk result (IsLevel ctx.old ctx.new) }
-    ensures read { OnOk result (T.read (node_doc node.new) ≡ T.read (node_doc node.old)) }
-    ensures aside { OnOk result (IsAside T.quiet ctx.old ctx.new) }
-    ensures logged { OnOk result (HasLogged T.watches T.trace (T.log pass.old) (T.log pass.new) (left place (node_doc node.old))) }
+    ensures untouched { OnOk result (IsUntouched (T.watches ≡ true) (node_doc node.old) (node_doc node.new) ctx.old ctx.new) }
+    ensures logged { OnOk result (HasLogged (T.watches ≡ true) T.trace (T.log pass.old) (T.log pass.new) (left place (node_doc node.old))) }
 {
     run_wanted(pass, as_left(node.kind), node, ctx)?;
     run_wanted(pass, from_place(place), node, ctx)
@@ -56,29 +55,27 @@ fn run_wanted<T: Traverse>(
 ) -> Result<(), OutOfMemory>
     requires open { IsOpen ctx.old }
     ensures level { OnOk result (IsLevel ctx.old ctx.new) }
-    ensures read { OnOk result (T.read (node_doc node.new) ≡ T.read (node_doc node.old)) }
-    ensures aside { OnOk result (IsAside T.quiet ctx.old ctx.new) }
-    ensures logged { OnOk result (HasLogged T.watches T.trace (T.log pass.old) (T.log pass.new) (visits_by hooks.now (node_doc node.old))) }
+    ensures untouched { OnOk result (IsUntouched (T.watches ≡ true) (node_doc node.old) (node_doc node.new) ctx.old ctx.new) }
+    ensures logged { OnOk result (HasLogged (T.watches ≡ true) T.trace (T.log pass.old) (T.log pass.new) (visits_by hooks.now (node_doc node.old))) }
 {
     for hook in hooks {
         if hook.wants(node.kind) {
-            run(pass, *hook, node, ctx)?;
+            run_at_node(pass, *hook, node, ctx)?;
         }
     }
     Ok(())
 }
 
-/// Runs the hook. One on lists of statements is never wanted at a node.
-fn run<T: Traverse>(
+/// Runs the hook at a node. One on lists of statements is there what the pass does at any node.
+pub fn run_at_node<T: Traverse>(
     pass: &mut T,
     hook: Hook,
     node: &mut Node,
     ctx: &mut TraverseCtx,
 ) -> Result<(), OutOfMemory>
-    requires open { IsOpen ctx.old }
+    requires open { IsOpenAt hook ctx.old }
     ensures level { OnOk result (IsLevel ctx.old ctx.new) }
-    ensures read { OnOk result (T.read (node_doc node.new) ≡ T.read (node_doc node.old)) }
-    ensures aside { OnOk result (IsAside T.quiet ctx.old ctx.new) }
+    ensures untouched { OnOk result (IsUntouched (T.watches ≡ true) (node_doc node.old) (node_doc node.new) ctx.old ctx.new) }
     ensures logged { OnOk result (T.log pass.new ≡ T.log pass.old ++ T.trace (visit hook (node_doc node.old))) }
 {
     match hook {
@@ -127,5 +124,24 @@ fn run<T: Traverse>(
         Hook::EnterImportDeclaration => pass.enter_import_declaration(node, ctx),
         Hook::EnterExportAllDeclaration => pass.enter_export_all_declaration(node, ctx),
         Hook::EnterExportFromDeclaration => pass.enter_export_from_declaration(node, ctx),
+    }
+}
+
+/// Runs the hook at a list of statements. One on nodes is there what the pass does at any list.
+pub fn run_at_statements<T: Traverse>(
+    pass: &mut T,
+    hook: Hook,
+    statements: &mut Vec<Part>,
+    ctx: &mut TraverseCtx,
+) -> Result<(), OutOfMemory>
+    requires open { IsOpen ctx.old }
+    ensures level { OnOk result (IsLevel ctx.old ctx.new) }
+    ensures untouched { OnOk result (IsUntouched (T.watches ≡ true) (list (docs_in statements.old.items)) (list (docs_in statements.new.items)) ctx.old ctx.new) }
+    ensures logged { OnOk result (T.log pass.new ≡ T.log pass.old ++ T.trace (visit hook (list (docs_in statements.old.items)))) }
+{
+    match hook {
+        Hook::EnterStatements => pass.enter_statements(statements, ctx),
+        Hook::ExitStatements => pass.exit_statements(statements, ctx),
+        _ => pass.at_statements(hook, statements, ctx),
     }
 }

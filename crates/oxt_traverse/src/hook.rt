@@ -2,8 +2,8 @@
 ghost use Rattle.std.specs.Prelude.{◌≡◌};
 ghost use Rattle.oxt_traverse.specs.Reached.{as_kind, as_left, at_place, from_place, wants};
 
-use oxt_table::category::Category;
-use oxt_table::kind::Kind;
+use oxt_grammar::category::Category;
+use oxt_grammar::kind::Kind;
 
 /// A hook. Those on lists of statements are handed a list, and all others a node.
 #[derive(Clone, Copy, Debug, PartialEq, Eq)]

@@ -1,10 +1,9 @@
 //! What a pass does at the nodes of a tree.
-ghost use Rattle.std.specs.Prelude.{◌≡◌, ◌++◌, Bool, List, [], OnOk, false};
-ghost use Rattle.oxt_traverse.specs.Level.{IsAside, IsLevel, IsOpen};
-ghost use Rattle.oxt_traverse.specs.Reading.{IsReading, IsWatching, nothing};
+ghost use Rattle.std.specs.Prelude.{◌≡◌, ◌++◌, Bool, List, [], OnOk, false, true};
+ghost use Rattle.oxt_traverse.specs.Level.{IsLevel, IsOpen, IsOpenAt, IsUntouched};
 ghost use Rattle.oxt_traverse.specs.Visits.{Visit, visit};
 ghost use Rattle.oxt_traverse.specs.declared.hook.Hook.TheVariants as hook;
-ghost use Rattle.oxt_tree.specs.Doc.{Doc, list};
+ghost use Rattle.oxt_tree.specs.Doc.{list};
 ghost use Rattle.oxt_tree.specs.View.{docs_in, node_doc};
 
 use crate::hook::Hook;
@@ -17,46 +16,53 @@ use oxt_tree::tree::{Node, Part};
 /// the nodes around that node, the innermost first. A hook that a pass does not write does what
 /// `at_node` or `at_statements` does.
 ///
-/// A pass may name what it keeps of a tree: `read` is what is seen of a document, and each hook
-/// leaves it as it was. Only a quiet pass, which puts nothing aside in the context, may claim to
-/// keep anything. A pass that names nothing keeps nothing.
+/// A hook leaves the records, and as many lists of declarators open, as it found. What a pass makes
+/// of a tree is its own affair: nothing is promised of it here.
 ///
-/// A pass may name a log too, and what each visit adds to it: each hook then adds that. A pass that
-/// watches keeps all of a tree, so that its log is that of the tree as it was.
+/// A pass may name a log, and what each visit adds to it: each hook then adds that. A pass that
+/// watches leaves the tree as it is and puts nothing aside, so that its log is that of the tree as
+/// it was.
 ///
 /// # Errors
 ///
 /// `OutOfMemory` for want of memory or of numbers alone. The tree, the pass and the context may
 /// then only be dropped.
 pub trait Traverse {
-    ghost read: { Doc → Doc } = { nothing };
-
-    ghost quiet: { Bool } = { false };
-
     ghost watches: { Bool } = { false };
 
     ghost log: { Self → List Visit } = { λ _. [] };
 
     ghost trace: { Visit → List Visit } = { λ _. [] };
 
-    /// What the hook does where the pass does not write it, at a node.
-    fn at_node(&mut self, hook: Hook, node: &Node, ctx: &TraverseCtx) -> Result<(), OutOfMemory>
-        ensures logged { OnOk result (log self.new ≡ log self.old ++ trace (visit hook (node_doc node.now))) };
+    /// What the hook does where the pass does not write it, at a node. A list of declarators is open
+    /// but at the hooks of the program.
+    fn at_node(
+        &mut self,
+        hook: Hook,
+        node: &mut Node,
+        ctx: &mut TraverseCtx,
+    ) -> Result<(), OutOfMemory>
+        requires open { IsOpenAt hook ctx.old }
+        ensures level { OnOk result (IsLevel ctx.old ctx.new) }
+        ensures untouched { OnOk result (IsUntouched (watches ≡ true) (node_doc node.old) (node_doc node.new) ctx.old ctx.new) }
+        ensures logged { OnOk result (log self.new ≡ log self.old ++ trace (visit hook (node_doc node.old))) };
 
     /// What the hook does where the pass does not write it, at a list of statements.
     fn at_statements(
         &mut self,
         hook: Hook,
-        statements: &[Part],
-        ctx: &TraverseCtx,
+        statements: &mut Vec<Part>,
+        ctx: &mut TraverseCtx,
     ) -> Result<(), OutOfMemory>
-        ensures logged { OnOk result (log self.new ≡ log self.old ++ trace (visit hook (list (docs_in statements.now)))) };
+        requires open { IsOpen ctx.old }
+        ensures level { OnOk result (IsLevel ctx.old ctx.new) }
+        ensures untouched { OnOk result (IsUntouched (watches ≡ true) (list (docs_in statements.old.items)) (list (docs_in statements.new.items)) ctx.old ctx.new) }
+        ensures logged { OnOk result (log self.new ≡ log self.old ++ trace (visit hook (list (docs_in statements.old.items)))) };
 
     /// Before the parts of the program.
     fn enter_program(&mut self, node: &mut Node, ctx: &mut TraverseCtx) -> Result<(), OutOfMemory>
         ensures level { OnOk result (IsLevel ctx.old ctx.new) }
-        ensures read { OnOk result (read (node_doc node.new) ≡ read (node_doc node.old)) }
-        ensures aside { OnOk result (IsAside quiet ctx.old ctx.new) }
+        ensures untouched { OnOk result (IsUntouched (watches ≡ true) (node_doc node.old) (node_doc node.new) ctx.old ctx.new) }
         ensures logged { OnOk result (log self.new ≡ log self.old ++ trace (visit hook.EnterProgram (node_doc node.old))) }
     {
         self.at_node(Hook::EnterProgram, node, ctx)
@@ -65,8 +71,7 @@ pub trait Traverse {
     /// After the parts of the program.
     fn exit_program(&mut self, node: &mut Node, ctx: &mut TraverseCtx) -> Result<(), OutOfMemory>
         ensures level { OnOk result (IsLevel ctx.old ctx.new) }
-        ensures read { OnOk result (read (node_doc node.new) ≡ read (node_doc node.old)) }
-        ensures aside { OnOk result (IsAside quiet ctx.old ctx.new) }
+        ensures untouched { OnOk result (IsUntouched (watches ≡ true) (node_doc node.old) (node_doc node.new) ctx.old ctx.new) }
         ensures logged { OnOk result (log self.new ≡ log self.old ++ trace (visit hook.ExitProgram (node_doc node.old))) }
     {
         self.at_node(Hook::ExitProgram, node, ctx)
@@ -80,11 +85,10 @@ pub trait Traverse {
     ) -> Result<(), OutOfMemory>
         requires open { IsOpen ctx.old }
         ensures level { OnOk result (IsLevel ctx.old ctx.new) }
-        ensures read { OnOk result (read (list (docs_in statements.new.items)) ≡ read (list (docs_in statements.old.items))) }
-        ensures aside { OnOk result (IsAside quiet ctx.old ctx.new) }
+        ensures untouched { OnOk result (IsUntouched (watches ≡ true) (list (docs_in statements.old.items)) (list (docs_in statements.new.items)) ctx.old ctx.new) }
         ensures logged { OnOk result (log self.new ≡ log self.old ++ trace (visit hook.EnterStatements (list (docs_in statements.old.items)))) }
     {
-        self.at_statements(Hook::EnterStatements, statements.as_slice(), ctx)
+        self.at_statements(Hook::EnterStatements, statements, ctx)
     }
 
     /// After the statements of a list.
@@ -95,19 +99,17 @@ pub trait Traverse {
     ) -> Result<(), OutOfMemory>
         requires open { IsOpen ctx.old }
         ensures level { OnOk result (IsLevel ctx.old ctx.new) }
-        ensures read { OnOk result (read (list (docs_in statements.new.items)) ≡ read (list (docs_in statements.old.items))) }
-        ensures aside { OnOk result (IsAside quiet ctx.old ctx.new) }
+        ensures untouched { OnOk result (IsUntouched (watches ≡ true) (list (docs_in statements.old.items)) (list (docs_in statements.new.items)) ctx.old ctx.new) }
         ensures logged { OnOk result (log self.new ≡ log self.old ++ trace (visit hook.ExitStatements (list (docs_in statements.old.items)))) }
     {
-        self.at_statements(Hook::ExitStatements, statements.as_slice(), ctx)
+        self.at_statements(Hook::ExitStatements, statements, ctx)
     }
 
     /// Before the parts of a statement.
     fn enter_statement(&mut self, node: &mut Node, ctx: &mut TraverseCtx) -> Result<(), OutOfMemory>
         requires open { IsOpen ctx.old }
         ensures level { OnOk result (IsLevel ctx.old ctx.new) }
-        ensures read { OnOk result (read (node_doc node.new) ≡ read (node_doc node.old)) }
-        ensures aside { OnOk result (IsAside quiet ctx.old ctx.new) }
+        ensures untouched { OnOk result (IsUntouched (watches ≡ true) (node_doc node.old) (node_doc node.new) ctx.old ctx.new) }
         ensures logged { OnOk result (log self.new ≡ log self.old ++ trace (visit hook.EnterStatement (node_doc node.old))) }
     {
         self.at_node(Hook::EnterStatement, node, ctx)
@@ -117,8 +119,7 @@ pub trait Traverse {
     fn exit_statement(&mut self, node: &mut Node, ctx: &mut TraverseCtx) -> Result<(), OutOfMemory>
         requires open { IsOpen ctx.old }
         ensures level { OnOk result (IsLevel ctx.old ctx.new) }
-        ensures read { OnOk result (read (node_doc node.new) ≡ read (node_doc node.old)) }
-        ensures aside { OnOk result (IsAside quiet ctx.old ctx.new) }
+        ensures untouched { OnOk result (IsUntouched (watches ≡ true) (node_doc node.old) (node_doc node.new) ctx.old ctx.new) }
         ensures logged { OnOk result (log self.new ≡ log self.old ++ trace (visit hook.ExitStatement (node_doc node.old))) }
     {
         self.at_node(Hook::ExitStatement, node, ctx)
@@ -128,8 +129,7 @@ pub trait Traverse {
     fn enter_class(&mut self, node: &mut Node, ctx: &mut TraverseCtx) -> Result<(), OutOfMemory>
         requires open { IsOpen ctx.old }
         ensures level { OnOk result (IsLevel ctx.old ctx.new) }
-        ensures read { OnOk result (read (node_doc node.new) ≡ read (node_doc node.old)) }
-        ensures aside { OnOk result (IsAside quiet ctx.old ctx.new) }
+        ensures untouched { OnOk result (IsUntouched (watches ≡ true) (node_doc node.old) (node_doc node.new) ctx.old ctx.new) }
         ensures logged { OnOk result (log self.new ≡ log self.old ++ trace (visit hook.EnterClass (node_doc node.old))) }
     {
         self.at_node(Hook::EnterClass, node, ctx)
@@ -139,8 +139,7 @@ pub trait Traverse {
     fn exit_class(&mut self, node: &mut Node, ctx: &mut TraverseCtx) -> Result<(), OutOfMemory>
         requires open { IsOpen ctx.old }
         ensures level { OnOk result (IsLevel ctx.old ctx.new) }
-        ensures read { OnOk result (read (node_doc node.new) ≡ read (node_doc node.old)) }
-        ensures aside { OnOk result (IsAside quiet ctx.old ctx.new) }
+        ensures untouched { OnOk result (IsUntouched (watches ≡ true) (node_doc node.old) (node_doc node.new) ctx.old ctx.new) }
         ensures logged { OnOk result (log self.new ≡ log self.old ++ trace (visit hook.ExitClass (node_doc node.old))) }
     {
         self.at_node(Hook::ExitClass, node, ctx)
@@ -154,8 +153,7 @@ pub trait Traverse {
     ) -> Result<(), OutOfMemory>
         requires open { IsOpen ctx.old }
         ensures level { OnOk result (IsLevel ctx.old ctx.new) }
-        ensures read { OnOk result (read (node_doc node.new) ≡ read (node_doc node.old)) }
-        ensures aside { OnOk result (IsAside quiet ctx.old ctx.new) }
+        ensures untouched { OnOk result (IsUntouched (watches ≡ true) (node_doc node.old) (node_doc node.new) ctx.old ctx.new) }
         ensures logged { OnOk result (log self.new ≡ log self.old ++ trace (visit hook.EnterMethodDefinition (node_doc node.old))) }
     {
         self.at_node(Hook::EnterMethodDefinition, node, ctx)
@@ -169,8 +167,7 @@ pub trait Traverse {
     ) -> Result<(), OutOfMemory>
         requires open { IsOpen ctx.old }
         ensures level { OnOk result (IsLevel ctx.old ctx.new) }
-        ensures read { OnOk result (read (node_doc node.new) ≡ read (node_doc node.old)) }
-        ensures aside { OnOk result (IsAside quiet ctx.old ctx.new) }
+        ensures untouched { OnOk result (IsUntouched (watches ≡ true) (node_doc node.old) (node_doc node.new) ctx.old ctx.new) }
         ensures logged { OnOk result (log self.new ≡ log self.old ++ trace (visit hook.ExitMethodDefinition (node_doc node.old))) }
     {
         self.at_node(Hook::ExitMethodDefinition, node, ctx)
@@ -184,8 +181,7 @@ pub trait Traverse {
     ) -> Result<(), OutOfMemory>
         requires open { IsOpen ctx.old }
         ensures level { OnOk result (IsLevel ctx.old ctx.new) }
-        ensures read { OnOk result (read (node_doc node.new) ≡ read (node_doc node.old)) }
-        ensures aside { OnOk result (IsAside quiet ctx.old ctx.new) }
+        ensures untouched { OnOk result (IsUntouched (watches ≡ true) (node_doc node.old) (node_doc node.new) ctx.old ctx.new) }
         ensures logged { OnOk result (log self.new ≡ log self.old ++ trace (visit hook.EnterAccessorProperty (node_doc node.old))) }
     {
         self.at_node(Hook::EnterAccessorProperty, node, ctx)
@@ -199,8 +195,7 @@ pub trait Traverse {
     ) -> Result<(), OutOfMemory>
         requires open { IsOpen ctx.old }
         ensures level { OnOk result (IsLevel ctx.old ctx.new) }
-        ensures read { OnOk result (read (node_doc node.new) ≡ read (node_doc node.old)) }
-        ensures aside { OnOk result (IsAside quiet ctx.old ctx.new) }
+        ensures untouched { OnOk result (IsUntouched (watches ≡ true) (node_doc node.old) (node_doc node.new) ctx.old ctx.new) }
         ensures logged { OnOk result (log self.new ≡ log self.old ++ trace (visit hook.ExitAccessorProperty (node_doc node.old))) }
     {
         self.at_node(Hook::ExitAccessorProperty, node, ctx)
@@ -214,8 +209,7 @@ pub trait Traverse {
     ) -> Result<(), OutOfMemory>
         requires open { IsOpen ctx.old }
         ensures level { OnOk result (IsLevel ctx.old ctx.new) }
-        ensures read { OnOk result (read (node_doc node.new) ≡ read (node_doc node.old)) }
-        ensures aside { OnOk result (IsAside quiet ctx.old ctx.new) }
+        ensures untouched { OnOk result (IsUntouched (watches ≡ true) (node_doc node.old) (node_doc node.new) ctx.old ctx.new) }
         ensures logged { OnOk result (log self.new ≡ log self.old ++ trace (visit hook.EnterPropertyDefinition (node_doc node.old))) }
     {
         self.at_node(Hook::EnterPropertyDefinition, node, ctx)
@@ -229,8 +223,7 @@ pub trait Traverse {
     ) -> Result<(), OutOfMemory>
         requires open { IsOpen ctx.old }
         ensures level { OnOk result (IsLevel ctx.old ctx.new) }
-        ensures read { OnOk result (read (node_doc node.new) ≡ read (node_doc node.old)) }
-        ensures aside { OnOk result (IsAside quiet ctx.old ctx.new) }
+        ensures untouched { OnOk result (IsUntouched (watches ≡ true) (node_doc node.old) (node_doc node.new) ctx.old ctx.new) }
         ensures logged { OnOk result (log self.new ≡ log self.old ++ trace (visit hook.ExitPropertyDefinition (node_doc node.old))) }
     {
         self.at_node(Hook::ExitPropertyDefinition, node, ctx)
@@ -240,8 +233,7 @@ pub trait Traverse {
     fn enter_function(&mut self, node: &mut Node, ctx: &mut TraverseCtx) -> Result<(), OutOfMemory>
         requires open { IsOpen ctx.old }
         ensures level { OnOk result (IsLevel ctx.old ctx.new) }
-        ensures read { OnOk result (read (node_doc node.new) ≡ read (node_doc node.old)) }
-        ensures aside { OnOk result (IsAside quiet ctx.old ctx.new) }
+        ensures untouched { OnOk result (IsUntouched (watches ≡ true) (node_doc node.old) (node_doc node.new) ctx.old ctx.new) }
         ensures logged { OnOk result (log self.new ≡ log self.old ++ trace (visit hook.EnterFunction (node_doc node.old))) }
     {
         self.at_node(Hook::EnterFunction, node, ctx)
@@ -251,8 +243,7 @@ pub trait Traverse {
     fn exit_function(&mut self, node: &mut Node, ctx: &mut TraverseCtx) -> Result<(), OutOfMemory>
         requires open { IsOpen ctx.old }
         ensures level { OnOk result (IsLevel ctx.old ctx.new) }
-        ensures read { OnOk result (read (node_doc node.new) ≡ read (node_doc node.old)) }
-        ensures aside { OnOk result (IsAside quiet ctx.old ctx.new) }
+        ensures untouched { OnOk result (IsUntouched (watches ≡ true) (node_doc node.old) (node_doc node.new) ctx.old ctx.new) }
         ensures logged { OnOk result (log self.new ≡ log self.old ++ trace (visit hook.ExitFunction (node_doc node.old))) }
     {
         self.at_node(Hook::ExitFunction, node, ctx)
@@ -266,8 +257,7 @@ pub trait Traverse {
     ) -> Result<(), OutOfMemory>
         requires open { IsOpen ctx.old }
         ensures level { OnOk result (IsLevel ctx.old ctx.new) }
-        ensures read { OnOk result (read (node_doc node.new) ≡ read (node_doc node.old)) }
-        ensures aside { OnOk result (IsAside quiet ctx.old ctx.new) }
+        ensures untouched { OnOk result (IsUntouched (watches ≡ true) (node_doc node.old) (node_doc node.new) ctx.old ctx.new) }
         ensures logged { OnOk result (log self.new ≡ log self.old ++ trace (visit hook.ExitClassAtEnd (node_doc node.old))) }
     {
         self.at_node(Hook::ExitClassAtEnd, node, ctx)
@@ -281,8 +271,7 @@ pub trait Traverse {
     ) -> Result<(), OutOfMemory>
         requires open { IsOpen ctx.old }
         ensures level { OnOk result (IsLevel ctx.old ctx.new) }
-        ensures read { OnOk result (read (node_doc node.new) ≡ read (node_doc node.old)) }
-        ensures aside { OnOk result (IsAside quiet ctx.old ctx.new) }
+        ensures untouched { OnOk result (IsUntouched (watches ≡ true) (node_doc node.old) (node_doc node.new) ctx.old ctx.new) }
         ensures logged { OnOk result (log self.new ≡ log self.old ++ trace (visit hook.EnterDeclaration (node_doc node.old))) }
     {
         self.at_node(Hook::EnterDeclaration, node, ctx)
@@ -296,8 +285,7 @@ pub trait Traverse {
     ) -> Result<(), OutOfMemory>
         requires open { IsOpen ctx.old }
         ensures level { OnOk result (IsLevel ctx.old ctx.new) }
-        ensures read { OnOk result (read (node_doc node.new) ≡ read (node_doc node.old)) }
-        ensures aside { OnOk result (IsAside quiet ctx.old ctx.new) }
+        ensures untouched { OnOk result (IsUntouched (watches ≡ true) (node_doc node.old) (node_doc node.new) ctx.old ctx.new) }
         ensures logged { OnOk result (log self.new ≡ log self.old ++ trace (visit hook.EnterExpression (node_doc node.old))) }
     {
         self.at_node(Hook::EnterExpression, node, ctx)
@@ -307,8 +295,7 @@ pub trait Traverse {
     fn enter_decorator(&mut self, node: &mut Node, ctx: &mut TraverseCtx) -> Result<(), OutOfMemory>
         requires open { IsOpen ctx.old }
         ensures level { OnOk result (IsLevel ctx.old ctx.new) }
-        ensures read { OnOk result (read (node_doc node.new) ≡ read (node_doc node.old)) }
-        ensures aside { OnOk result (IsAside quiet ctx.old ctx.new) }
+        ensures untouched { OnOk result (IsUntouched (watches ≡ true) (node_doc node.old) (node_doc node.new) ctx.old ctx.new) }
         ensures logged { OnOk result (log self.new ≡ log self.old ++ trace (visit hook.EnterDecorator (node_doc node.old))) }
     {
         self.at_node(Hook::EnterDecorator, node, ctx)
@@ -322,8 +309,7 @@ pub trait Traverse {
     ) -> Result<(), OutOfMemory>
         requires open { IsOpen ctx.old }
         ensures level { OnOk result (IsLevel ctx.old ctx.new) }
-        ensures read { OnOk result (read (node_doc node.new) ≡ read (node_doc node.old)) }
-        ensures aside { OnOk result (IsAside quiet ctx.old ctx.new) }
+        ensures untouched { OnOk result (IsUntouched (watches ≡ true) (node_doc node.old) (node_doc node.new) ctx.old ctx.new) }
         ensures logged { OnOk result (log self.new ≡ log self.old ++ trace (visit hook.EnterArrowFunctionExpression (node_doc node.old))) }
     {
         self.at_node(Hook::EnterArrowFunctionExpression, node, ctx)
@@ -337,8 +323,7 @@ pub trait Traverse {
     ) -> Result<(), OutOfMemory>
         requires open { IsOpen ctx.old }
         ensures level { OnOk result (IsLevel ctx.old ctx.new) }
-        ensures read { OnOk result (read (node_doc node.new) ≡ read (node_doc node.old)) }
-        ensures aside { OnOk result (IsAside quiet ctx.old ctx.new) }
+        ensures untouched { OnOk result (IsUntouched (watches ≡ true) (node_doc node.old) (node_doc node.new) ctx.old ctx.new) }
         ensures logged { OnOk result (log self.new ≡ log self.old ++ trace (visit hook.EnterVariableDeclaration (node_doc node.old))) }
     {
         self.at_node(Hook::EnterVariableDeclaration, node, ctx)
@@ -352,8 +337,7 @@ pub trait Traverse {
     ) -> Result<(), OutOfMemory>
         requires open { IsOpen ctx.old }
         ensures level { OnOk result (IsLevel ctx.old ctx.new) }
-        ensures read { OnOk result (read (node_doc node.new) ≡ read (node_doc node.old)) }
-        ensures aside { OnOk result (IsAside quiet ctx.old ctx.new) }
+        ensures untouched { OnOk result (IsUntouched (watches ≡ true) (node_doc node.old) (node_doc node.new) ctx.old ctx.new) }
         ensures logged { OnOk result (log self.new ≡ log self.old ++ trace (visit hook.EnterVariableDeclarator (node_doc node.old))) }
     {
         self.at_node(Hook::EnterVariableDeclarator, node, ctx)
@@ -367,8 +351,7 @@ pub trait Traverse {
     ) -> Result<(), OutOfMemory>
         requires open { IsOpen ctx.old }
         ensures level { OnOk result (IsLevel ctx.old ctx.new) }
-        ensures read { OnOk result (read (node_doc node.new) ≡ read (node_doc node.old)) }
-        ensures aside { OnOk result (IsAside quiet ctx.old ctx.new) }
+        ensures untouched { OnOk result (IsUntouched (watches ≡ true) (node_doc node.old) (node_doc node.new) ctx.old ctx.new) }
         ensures logged { OnOk result (log self.new ≡ log self.old ++ trace (visit hook.EnterCallExpression (node_doc node.old))) }
     {
         self.at_node(Hook::EnterCallExpression, node, ctx)
@@ -382,8 +365,7 @@ pub trait Traverse {
     ) -> Result<(), OutOfMemory>
         requires open { IsOpen ctx.old }
         ensures level { OnOk result (IsLevel ctx.old ctx.new) }
-        ensures read { OnOk result (read (node_doc node.new) ≡ read (node_doc node.old)) }
-        ensures aside { OnOk result (IsAside quiet ctx.old ctx.new) }
+        ensures untouched { OnOk result (IsUntouched (watches ≡ true) (node_doc node.old) (node_doc node.new) ctx.old ctx.new) }
         ensures logged { OnOk result (log self.new ≡ log self.old ++ trace (visit hook.EnterNewExpression (node_doc node.old))) }
     {
         self.at_node(Hook::EnterNewExpression, node, ctx)
@@ -397,8 +379,7 @@ pub trait Traverse {
     ) -> Result<(), OutOfMemory>
         requires open { IsOpen ctx.old }
         ensures level { OnOk result (IsLevel ctx.old ctx.new) }
-        ensures read { OnOk result (read (node_doc node.new) ≡ read (node_doc node.old)) }
-        ensures aside { OnOk result (IsAside quiet ctx.old ctx.new) }
+        ensures untouched { OnOk result (IsUntouched (watches ≡ true) (node_doc node.old) (node_doc node.new) ctx.old ctx.new) }
         ensures logged { OnOk result (log self.new ≡ log self.old ++ trace (visit hook.EnterTaggedTemplateExpression (node_doc node.old))) }
     {
         self.at_node(Hook::EnterTaggedTemplateExpression, node, ctx)
@@ -412,8 +393,7 @@ pub trait Traverse {
     ) -> Result<(), OutOfMemory>
         requires open { IsOpen ctx.old }
         ensures level { OnOk result (IsLevel ctx.old ctx.new) }
-        ensures read { OnOk result (read (node_doc node.new) ≡ read (node_doc node.old)) }
-        ensures aside { OnOk result (IsAside quiet ctx.old ctx.new) }
+        ensures untouched { OnOk result (IsUntouched (watches ≡ true) (node_doc node.old) (node_doc node.new) ctx.old ctx.new) }
         ensures logged { OnOk result (log self.new ≡ log self.old ++ trace (visit hook.EnterImportExpression (node_doc node.old))) }
     {
         self.at_node(Hook::EnterImportExpression, node, ctx)
@@ -427,8 +407,7 @@ pub trait Traverse {
     ) -> Result<(), OutOfMemory>
         requires open { IsOpen ctx.old }
         ensures level { OnOk result (IsLevel ctx.old ctx.new) }
-        ensures read { OnOk result (read (node_doc node.new) ≡ read (node_doc node.old)) }
-        ensures aside { OnOk result (IsAside quiet ctx.old ctx.new) }
+        ensures untouched { OnOk result (IsUntouched (watches ≡ true) (node_doc node.old) (node_doc node.new) ctx.old ctx.new) }
         ensures logged { OnOk result (log self.new ≡ log self.old ++ trace (visit hook.EnterChainElement (node_doc node.old))) }
     {
         self.at_node(Hook::EnterChainElement, node, ctx)
@@ -442,8 +421,7 @@ pub trait Traverse {
     ) -> Result<(), OutOfMemory>
         requires open { IsOpen ctx.old }
         ensures level { OnOk result (IsLevel ctx.old ctx.new) }
-        ensures read { OnOk result (read (node_doc node.new) ≡ read (node_doc node.old)) }
-        ensures aside { OnOk result (IsAside quiet ctx.old ctx.new) }
+        ensures untouched { OnOk result (IsUntouched (watches ≡ true) (node_doc node.old) (node_doc node.new) ctx.old ctx.new) }
         ensures logged { OnOk result (log self.new ≡ log self.old ++ trace (visit hook.EnterSimpleAssignmentTarget (node_doc node.old))) }
     {
         self.at_node(Hook::EnterSimpleAssignmentTarget, node, ctx)
@@ -457,8 +435,7 @@ pub trait Traverse {
     ) -> Result<(), OutOfMemory>
         requires open { IsOpen ctx.old }
         ensures level { OnOk result (IsLevel ctx.old ctx.new) }
-        ensures read { OnOk result (read (node_doc node.new) ≡ read (node_doc node.old)) }
-        ensures aside { OnOk result (IsAside quiet ctx.old ctx.new) }
+        ensures untouched { OnOk result (IsUntouched (watches ≡ true) (node_doc node.old) (node_doc node.new) ctx.old ctx.new) }
         ensures logged { OnOk result (log self.new ≡ log self.old ++ trace (visit hook.EnterAssignmentTarget (node_doc node.old))) }
     {
         self.at_node(Hook::EnterAssignmentTarget, node, ctx)
@@ -472,8 +449,7 @@ pub trait Traverse {
     ) -> Result<(), OutOfMemory>
         requires open { IsOpen ctx.old }
         ensures level { OnOk result (IsLevel ctx.old ctx.new) }
-        ensures read { OnOk result (read (node_doc node.new) ≡ read (node_doc node.old)) }
-        ensures aside { OnOk result (IsAside quiet ctx.old ctx.new) }
+        ensures untouched { OnOk result (IsUntouched (watches ≡ true) (node_doc node.old) (node_doc node.new) ctx.old ctx.new) }
         ensures logged { OnOk result (log self.new ≡ log self.old ++ trace (visit hook.EnterFormalParameter (node_doc node.old))) }
     {
         self.at_node(Hook::EnterFormalParameter, node, ctx)
@@ -487,8 +463,7 @@ pub trait Traverse {
     ) -> Result<(), OutOfMemory>
         requires open { IsOpen ctx.old }
         ensures level { OnOk result (IsLevel ctx.old ctx.new) }
-        ensures read { OnOk result (read (node_doc node.new) ≡ read (node_doc node.old)) }
-        ensures aside { OnOk result (IsAside quiet ctx.old ctx.new) }
+        ensures untouched { OnOk result (IsUntouched (watches ≡ true) (node_doc node.old) (node_doc node.new) ctx.old ctx.new) }
         ensures logged { OnOk result (log self.new ≡ log self.old ++ trace (visit hook.EnterFormalParameterRest (node_doc node.old))) }
     {
         self.at_node(Hook::EnterFormalParameterRest, node, ctx)
@@ -502,8 +477,7 @@ pub trait Traverse {
     ) -> Result<(), OutOfMemory>
         requires open { IsOpen ctx.old }
         ensures level { OnOk result (IsLevel ctx.old ctx.new) }
-        ensures read { OnOk result (read (node_doc node.new) ≡ read (node_doc node.old)) }
-        ensures aside { OnOk result (IsAside quiet ctx.old ctx.new) }
+        ensures untouched { OnOk result (IsUntouched (watches ≡ true) (node_doc node.old) (node_doc node.new) ctx.old ctx.new) }
         ensures logged { OnOk result (log self.new ≡ log self.old ++ trace (visit hook.EnterCatchParameter (node_doc node.old))) }
     {
         self.at_node(Hook::EnterCatchParameter, node, ctx)
@@ -517,8 +491,7 @@ pub trait Traverse {
     ) -> Result<(), OutOfMemory>
         requires open { IsOpen ctx.old }
         ensures level { OnOk result (IsLevel ctx.old ctx.new) }
-        ensures read { OnOk result (read (node_doc node.new) ≡ read (node_doc node.old)) }
-        ensures aside { OnOk result (IsAside quiet ctx.old ctx.new) }
+        ensures untouched { OnOk result (IsUntouched (watches ≡ true) (node_doc node.old) (node_doc node.new) ctx.old ctx.new) }
         ensures logged { OnOk result (log self.new ≡ log self.old ++ trace (visit hook.EnterJsxOpeningElement (node_doc node.old))) }
     {
         self.at_node(Hook::EnterJsxOpeningElement, node, ctx)
@@ -532,8 +505,7 @@ pub trait Traverse {
     ) -> Result<(), OutOfMemory>
         requires open { IsOpen ctx.old }
         ensures level { OnOk result (IsLevel ctx.old ctx.new) }
-        ensures read { OnOk result (read (node_doc node.new) ≡ read (node_doc node.old)) }
-        ensures aside { OnOk result (IsAside quiet ctx.old ctx.new) }
+        ensures untouched { OnOk result (IsUntouched (watches ≡ true) (node_doc node.old) (node_doc node.new) ctx.old ctx.new) }
         ensures logged { OnOk result (log self.new ≡ log self.old ++ trace (visit hook.EnterJsxElement (node_doc node.old))) }
     {
         self.at_node(Hook::EnterJsxElement, node, ctx)
@@ -547,8 +519,7 @@ pub trait Traverse {
     ) -> Result<(), OutOfMemory>
         requires open { IsOpen ctx.old }
         ensures level { OnOk result (IsLevel ctx.old ctx.new) }
-        ensures read { OnOk result (read (node_doc node.new) ≡ read (node_doc node.old)) }
-        ensures aside { OnOk result (IsAside quiet ctx.old ctx.new) }
+        ensures untouched { OnOk result (IsUntouched (watches ≡ true) (node_doc node.old) (node_doc node.new) ctx.old ctx.new) }
         ensures logged { OnOk result (log self.new ≡ log self.old ++ trace (visit hook.EnterJsxFragment (node_doc node.old))) }
     {
         self.at_node(Hook::EnterJsxFragment, node, ctx)
@@ -562,8 +533,7 @@ pub trait Traverse {
     ) -> Result<(), OutOfMemory>
         requires open { IsOpen ctx.old }
         ensures level { OnOk result (IsLevel ctx.old ctx.new) }
-        ensures read { OnOk result (read (node_doc node.new) ≡ read (node_doc node.old)) }
-        ensures aside { OnOk result (IsAside quiet ctx.old ctx.new) }
+        ensures untouched { OnOk result (IsUntouched (watches ≡ true) (node_doc node.old) (node_doc node.new) ctx.old ctx.new) }
         ensures logged { OnOk result (log self.new ≡ log self.old ++ trace (visit hook.EnterIfStatement (node_doc node.old))) }
     {
         self.at_node(Hook::EnterIfStatement, node, ctx)
@@ -577,8 +547,7 @@ pub trait Traverse {
     ) -> Result<(), OutOfMemory>
         requires open { IsOpen ctx.old }
         ensures level { OnOk result (IsLevel ctx.old ctx.new) }
-        ensures read { OnOk result (read (node_doc node.new) ≡ read (node_doc node.old)) }
-        ensures aside { OnOk result (IsAside quiet ctx.old ctx.new) }
+        ensures untouched { OnOk result (IsUntouched (watches ≡ true) (node_doc node.old) (node_doc node.new) ctx.old ctx.new) }
         ensures logged { OnOk result (log self.new ≡ log self.old ++ trace (visit hook.EnterWhileStatement (node_doc node.old))) }
     {
         self.at_node(Hook::EnterWhileStatement, node, ctx)
@@ -592,8 +561,7 @@ pub trait Traverse {
     ) -> Result<(), OutOfMemory>
         requires open { IsOpen ctx.old }
         ensures level { OnOk result (IsLevel ctx.old ctx.new) }
-        ensures read { OnOk result (read (node_doc node.new) ≡ read (node_doc node.old)) }
-        ensures aside { OnOk result (IsAside quiet ctx.old ctx.new) }
+        ensures untouched { OnOk result (IsUntouched (watches ≡ true) (node_doc node.old) (node_doc node.new) ctx.old ctx.new) }
         ensures logged { OnOk result (log self.new ≡ log self.old ++ trace (visit hook.EnterDoWhileStatement (node_doc node.old))) }
     {
         self.at_node(Hook::EnterDoWhileStatement, node, ctx)
@@ -607,8 +575,7 @@ pub trait Traverse {
     ) -> Result<(), OutOfMemory>
         requires open { IsOpen ctx.old }
         ensures level { OnOk result (IsLevel ctx.old ctx.new) }
-        ensures read { OnOk result (read (node_doc node.new) ≡ read (node_doc node.old)) }
-        ensures aside { OnOk result (IsAside quiet ctx.old ctx.new) }
+        ensures untouched { OnOk result (IsUntouched (watches ≡ true) (node_doc node.old) (node_doc node.new) ctx.old ctx.new) }
         ensures logged { OnOk result (log self.new ≡ log self.old ++ trace (visit hook.EnterForStatement (node_doc node.old))) }
     {
         self.at_node(Hook::EnterForStatement, node, ctx)
@@ -622,8 +589,7 @@ pub trait Traverse {
     ) -> Result<(), OutOfMemory>
         requires open { IsOpen ctx.old }
         ensures level { OnOk result (IsLevel ctx.old ctx.new) }
-        ensures read { OnOk result (read (node_doc node.new) ≡ read (node_doc node.old)) }
-        ensures aside { OnOk result (IsAside quiet ctx.old ctx.new) }
+        ensures untouched { OnOk result (IsUntouched (watches ≡ true) (node_doc node.old) (node_doc node.new) ctx.old ctx.new) }
         ensures logged { OnOk result (log self.new ≡ log self.old ++ trace (visit hook.EnterForInStatement (node_doc node.old))) }
     {
         self.at_node(Hook::EnterForInStatement, node, ctx)
@@ -637,8 +603,7 @@ pub trait Traverse {
     ) -> Result<(), OutOfMemory>
         requires open { IsOpen ctx.old }
         ensures level { OnOk result (IsLevel ctx.old ctx.new) }
-        ensures read { OnOk result (read (node_doc node.new) ≡ read (node_doc node.old)) }
-        ensures aside { OnOk result (IsAside quiet ctx.old ctx.new) }
+        ensures untouched { OnOk result (IsUntouched (watches ≡ true) (node_doc node.old) (node_doc node.new) ctx.old ctx.new) }
         ensures logged { OnOk result (log self.new ≡ log self.old ++ trace (visit hook.EnterForOfStatement (node_doc node.old))) }
     {
         self.at_node(Hook::EnterForOfStatement, node, ctx)
@@ -652,8 +617,7 @@ pub trait Traverse {
     ) -> Result<(), OutOfMemory>
         requires open { IsOpen ctx.old }
         ensures level { OnOk result (IsLevel ctx.old ctx.new) }
-        ensures read { OnOk result (read (node_doc node.new) ≡ read (node_doc node.old)) }
-        ensures aside { OnOk result (IsAside quiet ctx.old ctx.new) }
+        ensures untouched { OnOk result (IsUntouched (watches ≡ true) (node_doc node.old) (node_doc node.new) ctx.old ctx.new) }
         ensures logged { OnOk result (log self.new ≡ log self.old ++ trace (visit hook.EnterImportDeclaration (node_doc node.old))) }
     {
         self.at_node(Hook::EnterImportDeclaration, node, ctx)
@@ -667,8 +631,7 @@ pub trait Traverse {
     ) -> Result<(), OutOfMemory>
         requires open { IsOpen ctx.old }
         ensures level { OnOk result (IsLevel ctx.old ctx.new) }
-        ensures read { OnOk result (read (node_doc node.new) ≡ read (node_doc node.old)) }
-        ensures aside { OnOk result (IsAside quiet ctx.old ctx.new) }
+        ensures untouched { OnOk result (IsUntouched (watches ≡ true) (node_doc node.old) (node_doc node.new) ctx.old ctx.new) }
         ensures logged { OnOk result (log self.new ≡ log self.old ++ trace (visit hook.EnterExportAllDeclaration (node_doc node.old))) }
     {
         self.at_node(Hook::EnterExportAllDeclaration, node, ctx)
@@ -682,14 +645,9 @@ pub trait Traverse {
     ) -> Result<(), OutOfMemory>
         requires open { IsOpen ctx.old }
         ensures level { OnOk result (IsLevel ctx.old ctx.new) }
-        ensures read { OnOk result (read (node_doc node.new) ≡ read (node_doc node.old)) }
-        ensures aside { OnOk result (IsAside quiet ctx.old ctx.new) }
+        ensures untouched { OnOk result (IsUntouched (watches ≡ true) (node_doc node.old) (node_doc node.new) ctx.old ctx.new) }
         ensures logged { OnOk result (log self.new ≡ log self.old ++ trace (visit hook.EnterExportFromDeclaration (node_doc node.old))) }
     {
         self.at_node(Hook::EnterExportFromDeclaration, node, ctx)
     }
-
-    ghost lawful: { IsReading read quiet };
-
-    ghost watching: { IsWatching watches read quiet };
 }

@@ -1,8 +1,8 @@
 -- What stands inside wrappers and parentheses.
 use Rattle.std.proofs.Common.{ℕ, ◌≡◌, refl, sym, ap, ◌∙◌, List, [], ◌∷◌, true, cond, get_or, ◌<◌, length, arith}
-use Rattle.oxt_table.specs.Places.{kind_in}
-use Rattle.oxt_table.specs.declared.category.Category.TheVariants as category
-use Rattle.oxt_table.specs.declared.kind.Kind.{Kind}
+use Rattle.oxt_grammar.specs.Places.{kind_in}
+use Rattle.oxt_grammar.specs.declared.category.Category.TheVariants as category
+use Rattle.oxt_grammar.specs.declared.kind.Kind.{Kind}
 use Rattle.oxt_tree.specs.Doc.{Doc, Docs, node, no_docs, doc}
 use Rattle.oxt_tree.specs.Inner.{inner_or, inner_expression}
 use Rattle.oxt_tree.specs.View.{node_doc, docs_in, part_doc}

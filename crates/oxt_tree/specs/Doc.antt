@@ -1,6 +1,6 @@
 -- A document: the tree as contracts see it, with no sharing, no words and no memory.
 use Rattle.std.specs.Prelude.{ℕ, List, [], ◌∷◌, Bool}
-use Rattle.oxt_table.specs.declared.kind.Kind.{Kind}
+use Rattle.oxt_grammar.specs.declared.kind.Kind.{Kind}
 
 mutual
   -- null, a flag, a whole number, a text, a list, or a node with its kind, number, start, end and

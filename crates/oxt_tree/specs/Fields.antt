@@ -1,15 +1,15 @@
 -- What the fields of a document hold.
 use Rattle.std.specs.Prelude.{ℕ, List, [], ◌∷◌, Bool, true, false, not, ◌&&◌, if◌then◌else◌, Option, None, Some, slice_get, length}
 use Rattle.std.specs.Str.{bytes_eq}
-use Rattle.oxt_table.specs.Field.{Field, is_required}
-use Rattle.oxt_table.specs.Places.{same_kind, kind_in}
-use Rattle.oxt_table.specs.Rows.{row_of}
-use Rattle.oxt_table.specs.Words.{text_of, words_in}
-use Rattle.oxt_table.specs.declared.category.Category.{Category}
-use Rattle.oxt_table.specs.declared.holds.Holds.{Holds}
-use Rattle.oxt_table.specs.declared.holds.Holds.TheVariants as holds
-use Rattle.oxt_table.specs.declared.kind.Kind.{Kind}
-use Rattle.oxt_table.specs.declared.word.Word.{Word}
+use Rattle.oxt_grammar.specs.Field.{Field, is_required}
+use Rattle.oxt_grammar.specs.Places.{same_kind, kind_in}
+use Rattle.oxt_grammar.specs.Rows.{row_of}
+use Rattle.oxt_grammar.specs.Words.{text_of, words_in}
+use Rattle.oxt_grammar.specs.declared.category.Category.{Category}
+use Rattle.oxt_grammar.specs.declared.holds.Holds.{Holds}
+use Rattle.oxt_grammar.specs.declared.holds.Holds.TheVariants as holds
+use Rattle.oxt_grammar.specs.declared.kind.Kind.{Kind}
+use Rattle.oxt_grammar.specs.declared.word.Word.{Word}
 use Rattle.oxt_tree.specs.Doc.{Doc, nil, flag, number, text, list, node, Docs, no_docs, doc}
 
 -- the field of that name, by the rows of the table; null where there is none

@@ -1,8 +1,8 @@
 -- The document that a tree stands for.
 use denote.Ref.{Bor}
 use Rattle.std.specs.Prelude.{ℕ, List, map, Option, None, Some}
-use Rattle.oxt_table.specs.Words.{text_of}
-use Rattle.oxt_table.specs.declared.kind.Kind.{Kind}
+use Rattle.oxt_grammar.specs.Words.{text_of}
+use Rattle.oxt_grammar.specs.declared.kind.Kind.{Kind}
 use Rattle.oxt_tree.specs.Doc.{Doc, nil, flag, number, text, list, node, Docs, docs_of}
 use Rattle.oxt_tree.specs.Fields.{named}
 use Rattle.oxt_tree.specs.Names.{name_bytes}

@@ -1,14 +1,14 @@
 //! The names that a pattern binds.
 ghost use Rattle.std.specs.Prelude.{◌≡◌, ◌++◌, map, IfOk, OnOk, codes};
-ghost use Rattle.oxt_table.specs.Field.{row_view};
+ghost use Rattle.oxt_grammar.specs.Field.{row_view};
 ghost use Rattle.oxt_tree.specs.Bound.{bound_names, bound_views, bare_name, binds_nothing, names_of_each, names_of_fields};
 ghost use Rattle.oxt_tree.specs.View.{docs_in, field_in, node_doc, part_doc};
 
 use crate::ids::{NodeId, OutOfMemory};
 use crate::name::Name;
 use crate::tree::{Node, Part};
-use oxt_table::holds::Row;
-use oxt_table::kind::Kind;
+use oxt_grammar::holds::Row;
+use oxt_grammar::kind::Kind;
 use std::alloc::Global;
 
 /// A name that a pattern binds.

@@ -2,18 +2,18 @@
 ghost use Rattle.std.specs.Prelude.{◌≡◌, ◌<◌, ◌^◌, option_map};
 ghost use Rattle.std.specs.List.{position_from, slice_get};
 ghost use Rattle.std.specs.Str.{bytes_eq};
-ghost use Rattle.oxt_table.specs.Field.{row_view};
-ghost use Rattle.oxt_table.specs.Rows.{row_of};
-ghost use Rattle.oxt_table.specs.declared.holds.Holds.TheVariants as holds;
+ghost use Rattle.oxt_grammar.specs.Field.{row_view};
+ghost use Rattle.oxt_grammar.specs.Rows.{row_of};
+ghost use Rattle.oxt_grammar.specs.declared.holds.Holds.TheVariants as holds;
 ghost use Rattle.oxt_tree.specs.Doc.{Doc};
 ghost use Rattle.oxt_tree.specs.Fields.{named, elements, count, node_of, text_in, is_nil, is_set, is_text, is_kind, is_in, default_of, is_default, is_left_out, is_empty_list};
 ghost use Rattle.oxt_tree.specs.View.{doc_of_part, doc_or_nil, docs_in, node_doc, part_doc};
 
 use crate::tree::{Node, Part};
-use oxt_table::category::Category;
-use oxt_table::holds::{Holds, Presence, Row};
-use oxt_table::kind::Kind;
-use oxt_table::word::Words;
+use oxt_grammar::category::Category;
+use oxt_grammar::holds::{Holds, Presence, Row};
+use oxt_grammar::kind::Kind;
+use oxt_grammar::word::Words;
 use std::alloc::Global;
 
 impl Node {

@@ -4,7 +4,7 @@ ghost use Rattle.oxt_tree.specs.Inner.{holds_inner, inner_expression, seen};
 ghost use Rattle.oxt_tree.specs.View.{docs_in, node_doc, part_doc};
 
 use crate::tree::{Node, Part};
-use oxt_table::category::Category;
+use oxt_grammar::category::Category;
 
 impl Node {
     /// The expression inside the wrappers and parentheses that the node is; the node itself where

@@ -1,13 +1,13 @@
 //! Which nodes are syntax of TypeScript alone.
 ghost use Rattle.std.specs.Prelude.{◌≡◌, codes};
 ghost use Rattle.std.specs.List.{list_any};
-ghost use Rattle.oxt_table.specs.Places.{same_kind};
+ghost use Rattle.oxt_grammar.specs.Places.{same_kind};
 ghost use Rattle.oxt_tree.specs.Syntax.{erased_kinds, is_erased_kind, is_type_only, lacks_body, is_erased, is_erased_node, is_definition_file, is_mere_declaration, is_typescript_syntax};
 ghost use Rattle.oxt_tree.specs.View.{docs_in, field_in, node_doc, part_doc};
 
 use crate::tree::{Node, Part};
-use oxt_table::category::Category;
-use oxt_table::kind::Kind;
+use oxt_grammar::category::Category;
+use oxt_grammar::kind::Kind;
 
 impl Node {
     /// Whether it is a wrapper, or erased by its kind, by `declare` or `type`, or for want of a

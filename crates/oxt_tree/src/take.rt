@@ -6,7 +6,7 @@ ghost use Rattle.oxt_tree.specs.View.{node_doc, part_doc};
 
 use crate::ids::{NodeId, Span};
 use crate::tree::{Node, Part};
-use oxt_table::kind::Kind;
+use oxt_grammar::kind::Kind;
 use std::alloc::Global;
 use std::mem;
 

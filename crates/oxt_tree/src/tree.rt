@@ -2,8 +2,8 @@
 
 use crate::ids::{NodeId, NodeIds, Span};
 use crate::name::Name;
-use oxt_table::kind::Kind;
-use oxt_table::word::Word;
+use oxt_grammar::kind::Kind;
+use oxt_grammar::word::Word;
 
 /// A node of the tree. Its parts are its fields, in the order of the rows of its kind.
 #[derive(Drop)]

@@ -1,8 +1,8 @@
 -- Declarations and class elements that stand for nothing at run time.
 use Rattle.std.specs.Prelude.{Bool, false, ◌&&◌, ◌||◌}
-use Rattle.oxt_table.specs.Places.{kind_in}
-use Rattle.oxt_table.specs.declared.category.Category.TheVariants as category
-use Rattle.oxt_table.specs.declared.kind.Kind.{Kind}
+use Rattle.oxt_grammar.specs.Places.{kind_in}
+use Rattle.oxt_grammar.specs.declared.category.Category.TheVariants as category
+use Rattle.oxt_grammar.specs.declared.kind.Kind.{Kind}
 use Rattle.oxt_tree.specs.Doc.{Doc, nil, flag, number, text, list, node, Docs}
 use Rattle.oxt_tree.specs.Syntax.{is_erased}
 

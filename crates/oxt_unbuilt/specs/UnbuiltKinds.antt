@@ -1,7 +1,7 @@
 -- Written by tools/grammar.py from grammar/grammar.txt.
 use Rattle.std.specs.Prelude.{Bool, true, false}
-use Rattle.oxt_table.specs.declared.kind.Kind.{Kind}
-use Rattle.oxt_table.specs.declared.kind.Kind.TheVariants.{Program, Directive, ExpressionStatement, BlockStatement, EmptyStatement, DebuggerStatement, IfStatement, ForStatement, ForInStatement, ForOfStatement, WhileStatement, DoWhileStatement, ReturnStatement, ThrowStatement, BreakStatement, ContinueStatement, LabeledStatement, WithStatement, SwitchStatement, SwitchCase, TryStatement, CatchClause, CatchParameter, VariableDeclaration, VariableDeclarator, FunctionDeclaration, FunctionExpression, TSDeclareFunction, TSEmptyBodyFunctionExpression, FormalParameters, FormalParameter, FormalParameterRest, FunctionBody, ArrowFunctionExpression, ClassDeclaration, ClassExpression, ClassBody, MethodDefinition, TSAbstractMethodDefinition, PropertyDefinition, TSAbstractPropertyDefinition, AccessorProperty, TSAbstractAccessorProperty, StaticBlock, Decorator, BindingIdentifier, IdentifierReference, IdentifierName, PrivateIdentifier, ObjectPattern, ArrayPattern, BindingProperty, BindingRestElement, AssignmentPattern, ArrayAssignmentTarget, ObjectAssignmentTarget, AssignmentTargetPropertyIdentifier, AssignmentTargetPropertyProperty, AssignmentTargetRest, AssignmentTargetWithDefault, BooleanLiteral, NullLiteral, ThisExpression, Super, NumericLiteral, StringLiteral, BigIntLiteral, RegExpLiteral, MetaProperty, TemplateLiteral, TemplateElement, TaggedTemplateExpression, ArrayExpression, ObjectExpression, SpreadElement, ObjectProperty, AssignmentExpression, BinaryExpression, LogicalExpression, UnaryExpression, UpdateExpression, ConditionalExpression, SequenceExpression, ParenthesizedExpression, CallExpression, NewExpression, ImportExpression, StaticMemberExpression, ComputedMemberExpression, PrivateFieldExpression, PrivateInExpression, ChainExpression, AwaitExpression, YieldExpression, TSAsExpression, TSSatisfiesExpression, TSTypeAssertion, TSNonNullExpression, TSInstantiationExpression, JSXElement, JSXFragment, JSXOpeningElement, JSXClosingElement, JSXIdentifier, JSXNamespacedName, JSXMemberExpression, JSXAttribute, JSXSpreadAttribute, JSXExpressionContainer, JSXEmptyExpression, JSXSpreadChild, JSXText, ImportDeclaration, ImportSpecifier, ImportDefaultSpecifier, ImportNamespaceSpecifier, WithClause, ImportAttribute, ExportDeclaration, ExportNamedDeclaration, ExportFromDeclaration, ExportAllDeclaration, ExportDefaultDeclaration, ExportSpecifier, TSExportAssignment, TSNamespaceExportDeclaration, TSTypeAliasDeclaration, TSInterfaceDeclaration, TSEnumDeclaration, TSEnumBody, TSEnumMember, TSNamespaceDeclaration, TSModuleBlock, TSExternalModuleDeclaration, TSGlobalDeclaration, TSImportEqualsDeclaration, TSExternalModuleReference, TSQualifiedName, TSTypeAnnotation, TSThisParameter, TSTypeParameterDeclaration, TSTypeParameter, TSTypeReference, TSUnionType, TSIntersectionType, TSConditionalType, TSTypeOperator, TSParenthesizedType, JSDocNullableType, JSDocNonNullableType, TSTypePredicate, TSLiteralType, TSVoidKeyword, TSUndefinedKeyword, TSNullKeyword, TSNeverKeyword, TSBooleanKeyword, TSStringKeyword, TSNumberKeyword, TSBigIntKeyword, TSSymbolKeyword, TSObjectKeyword, TSAnyKeyword, TSUnknownKeyword, TSIntrinsicKeyword, TSFunctionType, TSConstructorType, TSArrayType, TSTupleType, TSNamedTupleMember, TSOptionalType, TSRestType, TSTemplateLiteralType, TSTypeQuery, TSIndexedAccessType, TSMappedType, TSTypeLiteral, TSThisType, TSImportType, TSInferType, JSDocUnknownType, TSTypeParameterInstantiation, TSClassImplements, TSIndexSignature}
+use Rattle.oxt_grammar.specs.declared.kind.Kind.{Kind}
+use Rattle.oxt_grammar.specs.declared.kind.Kind.TheVariants.{Program, Directive, ExpressionStatement, BlockStatement, EmptyStatement, DebuggerStatement, IfStatement, ForStatement, ForInStatement, ForOfStatement, WhileStatement, DoWhileStatement, ReturnStatement, ThrowStatement, BreakStatement, ContinueStatement, LabeledStatement, WithStatement, SwitchStatement, SwitchCase, TryStatement, CatchClause, CatchParameter, VariableDeclaration, VariableDeclarator, FunctionDeclaration, FunctionExpression, TSDeclareFunction, TSEmptyBodyFunctionExpression, FormalParameters, FormalParameter, FormalParameterRest, FunctionBody, ArrowFunctionExpression, ClassDeclaration, ClassExpression, ClassBody, MethodDefinition, TSAbstractMethodDefinition, PropertyDefinition, TSAbstractPropertyDefinition, AccessorProperty, TSAbstractAccessorProperty, StaticBlock, Decorator, BindingIdentifier, IdentifierReference, IdentifierName, PrivateIdentifier, ObjectPattern, ArrayPattern, BindingProperty, BindingRestElement, AssignmentPattern, ArrayAssignmentTarget, ObjectAssignmentTarget, AssignmentTargetPropertyIdentifier, AssignmentTargetPropertyProperty, AssignmentTargetRest, AssignmentTargetWithDefault, BooleanLiteral, NullLiteral, ThisExpression, Super, NumericLiteral, StringLiteral, BigIntLiteral, RegExpLiteral, MetaProperty, TemplateLiteral, TemplateElement, TaggedTemplateExpression, ArrayExpression, ObjectExpression, SpreadElement, ObjectProperty, AssignmentExpression, BinaryExpression, LogicalExpression, UnaryExpression, UpdateExpression, ConditionalExpression, SequenceExpression, ParenthesizedExpression, CallExpression, NewExpression, ImportExpression, StaticMemberExpression, ComputedMemberExpression, PrivateFieldExpression, PrivateInExpression, ChainExpression, AwaitExpression, YieldExpression, TSAsExpression, TSSatisfiesExpression, TSTypeAssertion, TSNonNullExpression, TSInstantiationExpression, JSXElement, JSXFragment, JSXOpeningElement, JSXClosingElement, JSXIdentifier, JSXNamespacedName, JSXMemberExpression, JSXAttribute, JSXSpreadAttribute, JSXExpressionContainer, JSXEmptyExpression, JSXSpreadChild, JSXText, ImportDeclaration, ImportSpecifier, ImportDefaultSpecifier, ImportNamespaceSpecifier, WithClause, ImportAttribute, ExportDeclaration, ExportNamedDeclaration, ExportFromDeclaration, ExportAllDeclaration, ExportDefaultDeclaration, ExportSpecifier, TSExportAssignment, TSNamespaceExportDeclaration, TSTypeAliasDeclaration, TSInterfaceDeclaration, TSEnumDeclaration, TSEnumBody, TSEnumMember, TSNamespaceDeclaration, TSModuleBlock, TSExternalModuleDeclaration, TSGlobalDeclaration, TSImportEqualsDeclaration, TSExternalModuleReference, TSQualifiedName, TSTypeAnnotation, TSThisParameter, TSTypeParameterDeclaration, TSTypeParameter, TSTypeReference, TSUnionType, TSIntersectionType, TSConditionalType, TSTypeOperator, TSParenthesizedType, JSDocNullableType, JSDocNonNullableType, TSTypePredicate, TSLiteralType, TSVoidKeyword, TSUndefinedKeyword, TSNullKeyword, TSNeverKeyword, TSBooleanKeyword, TSStringKeyword, TSNumberKeyword, TSBigIntKeyword, TSSymbolKeyword, TSObjectKeyword, TSAnyKeyword, TSUnknownKeyword, TSIntrinsicKeyword, TSFunctionType, TSConstructorType, TSArrayType, TSTupleType, TSNamedTupleMember, TSOptionalType, TSRestType, TSTemplateLiteralType, TSTypeQuery, TSIndexedAccessType, TSMappedType, TSTypeLiteral, TSThisType, TSImportType, TSInferType, JSDocUnknownType, TSTypeParameterInstantiation, TSClassImplements, TSIndexSignature}
 
 -- no node of the kind is transformed yet
 abbrev pub is_unbuilt_kind : Kind → Bool

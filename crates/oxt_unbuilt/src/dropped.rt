@@ -3,8 +3,8 @@ ghost use Rattle.std.specs.Prelude.{◌≡◌};
 ghost use Rattle.oxt_unbuilt.specs.Dropped.{is_droppable, is_dropped};
 ghost use Rattle.oxt_tree.specs.View.{node_doc, part_doc};
 
-use oxt_table::category::Category;
-use oxt_table::kind::Kind;
+use oxt_grammar::category::Category;
+use oxt_grammar::kind::Kind;
 use oxt_tree::tree::{Node, Part};
 
 /// Whether the node is a declaration or an element of a class that stands for nothing at run time: by

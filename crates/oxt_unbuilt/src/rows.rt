@@ -2,8 +2,8 @@
 ghost use Rattle.std.specs.Prelude.{◌≡◌};
 ghost use Rattle.oxt_unbuilt.specs.Unbuilt.{is_language};
 
-use oxt_table::holds::Holds;
-use oxt_table::word::Words;
+use oxt_grammar::holds::Holds;
+use oxt_grammar::word::Words;
 
 /// Whether the field holds the name of a language.
 pub fn is_language(holds: Holds) -> bool

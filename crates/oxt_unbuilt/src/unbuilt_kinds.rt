@@ -2,7 +2,7 @@
 ghost use Rattle.std.specs.Prelude.{◌≡◌};
 ghost use Rattle.oxt_unbuilt.specs.UnbuiltKinds.{is_unbuilt_kind};
 
-use oxt_table::kind::Kind;
+use oxt_grammar::kind::Kind;
 
 /// Whether no node of the kind is transformed yet.
 pub fn is_unbuilt(kind: Kind) -> bool

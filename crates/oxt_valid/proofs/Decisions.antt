@@ -1,17 +1,17 @@
 -- No place is found exactly where the test holds.
 use Rattle.std.proofs.Common.{ℕ, ◌+◌, ◌^◌, ◌≡◌, refl, sym, ap, ◌∙◌, List, [], ◌∷◌, Bool, true, false, not, ◌&&◌, ◌||◌, nat_lt, cond, Option, None, Some, is_none, codes}
 use Rattle.std.specs.Fmt.{decimal}
-use Rattle.oxt_table.specs.Context.{setting_of}
-use Rattle.oxt_table.specs.Field.{Field}
-use Rattle.oxt_table.specs.Places.{narrow, category_of, element_of, kind_in, allows_null, allows_flag, allows_number}
-use Rattle.oxt_table.specs.Rows.{row_of}
-use Rattle.oxt_table.specs.declared.category.Category.{Category}
-use Rattle.oxt_table.specs.declared.category.Category.TheVariants as category
-use Rattle.oxt_table.specs.declared.context.Setting.{Setting}
-use Rattle.oxt_table.specs.declared.context.Setting.TheVariants.{Elsewhere}
-use Rattle.oxt_table.specs.declared.holds.Holds.{Holds}
-use Rattle.oxt_table.specs.declared.holds.Holds.TheVariants as holds
-use Rattle.oxt_table.specs.declared.kind.Kind.{Kind}
+use Rattle.oxt_grammar.specs.Context.{setting_of}
+use Rattle.oxt_grammar.specs.Field.{Field}
+use Rattle.oxt_grammar.specs.Places.{narrow, category_of, element_of, kind_in, allows_null, allows_flag, allows_number}
+use Rattle.oxt_grammar.specs.Rows.{row_of}
+use Rattle.oxt_grammar.specs.declared.category.Category.{Category}
+use Rattle.oxt_grammar.specs.declared.category.Category.TheVariants as category
+use Rattle.oxt_grammar.specs.declared.context.Setting.{Setting}
+use Rattle.oxt_grammar.specs.declared.context.Setting.TheVariants.{Elsewhere}
+use Rattle.oxt_grammar.specs.declared.holds.Holds.{Holds}
+use Rattle.oxt_grammar.specs.declared.holds.Holds.TheVariants as holds
+use Rattle.oxt_grammar.specs.declared.kind.Kind.{Kind}
 use Rattle.oxt_tree.specs.Doc.{Doc, nil, flag, number, text, list, node, Docs, no_docs, doc}
 use Rattle.oxt_valid.specs.Condition.{fault}
 use Rattle.oxt_valid.specs.Misfit.{below, condition_misfit, first_misfit, head_misfit, list_misfit, misfit, misfit_in_each, misfit_in_fields, or_else, unless}

@@ -2,13 +2,13 @@
 use Rattle.std.proofs.Common.{ℕ, suc, ◌+◌, ◌<◌, ◌≤◌, ◌^◌, ◌≡◌, refl, ap, ◌∙◌, arith, List, [], ◌∷◌, length, map, drop, true, false, nat_lt, nat_le, get_or, Option, None, Some}
 use Rattle.std.proofs.lemmas.Bool.Decides.{nat_tests}
 use Rattle.std.specs.Fmt.{decimal}
-use Rattle.oxt_table.specs.Field.{row_view}
-use Rattle.oxt_table.specs.Places.{narrow}
-use Rattle.oxt_table.specs.declared.category.Category.{Category}
-use Rattle.oxt_table.specs.declared.context.Setting.{Setting}
-use Rattle.oxt_table.specs.declared.holds.Holds.{Holds}
-use Rattle.oxt_table.specs.declared.holds.Row.{Row}
-use Rattle.oxt_table.specs.declared.kind.Kind.{Kind}
+use Rattle.oxt_grammar.specs.Field.{row_view}
+use Rattle.oxt_grammar.specs.Places.{narrow}
+use Rattle.oxt_grammar.specs.declared.category.Category.{Category}
+use Rattle.oxt_grammar.specs.declared.context.Setting.{Setting}
+use Rattle.oxt_grammar.specs.declared.holds.Holds.{Holds}
+use Rattle.oxt_grammar.specs.declared.holds.Row.{Row}
+use Rattle.oxt_grammar.specs.declared.kind.Kind.{Kind}
 use Rattle.oxt_tree.proofs.Lists.{drop_at, drop_end}
 use Rattle.oxt_tree.specs.Pointer.{at_key}
 use Rattle.oxt_tree.specs.View.{docs_in, part_doc}

@@ -1,7 +1,7 @@
 -- Plain lists, an element at a time.
 use Rattle.std.proofs.Common.{ℕ, ◌+◌, ◌<◌, ◌≤◌, ◌≡◌, refl, ap, ◌∙◌, List, [], ◌∷◌, length, map, drop, Bool, true, ◌&&◌, ◌||◌, not, get_or}
-use Rattle.oxt_table.specs.Field.{row_view, is_typescript_field}
-use Rattle.oxt_table.specs.declared.holds.Row.{Row}
+use Rattle.oxt_grammar.specs.Field.{row_view, is_typescript_field}
+use Rattle.oxt_grammar.specs.declared.holds.Row.{Row}
 use Rattle.oxt_tree.proofs.Lists.{drop_at, drop_end}
 use Rattle.oxt_tree.specs.Fields.{is_default}
 use Rattle.oxt_valid.specs.Plain.{is_plain, all_plain, fields_plain}

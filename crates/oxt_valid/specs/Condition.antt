@@ -1,14 +1,14 @@
 -- The conditions on nodes beside what their fields hold.
 use Rattle.std.specs.Prelude.{ℕ, ◌+◌, List, Bool, true, false, not, ◌&&◌, ◌||◌, ◌==◌, nat_lt, if◌then◌else◌, Option, None, Some, codes, count_by}
 use Rattle.std.specs.List.{list_any}
-use Rattle.oxt_table.specs.Context.{condition_of}
-use Rattle.oxt_table.specs.declared.category.Category.TheVariants as category
-use Rattle.oxt_table.specs.declared.context.Condition.{Condition}
-use Rattle.oxt_table.specs.declared.context.Condition.TheVariants as condition
-use Rattle.oxt_table.specs.declared.context.Setting.{Setting}
-use Rattle.oxt_table.specs.declared.context.Setting.TheVariants as setting
-use Rattle.oxt_table.specs.declared.kind.Kind.{Kind}
-use Rattle.oxt_table.specs.declared.kind.Kind.TheVariants as kind
+use Rattle.oxt_grammar.specs.Context.{condition_of}
+use Rattle.oxt_grammar.specs.declared.category.Category.TheVariants as category
+use Rattle.oxt_grammar.specs.declared.context.Condition.{Condition}
+use Rattle.oxt_grammar.specs.declared.context.Condition.TheVariants as condition
+use Rattle.oxt_grammar.specs.declared.context.Setting.{Setting}
+use Rattle.oxt_grammar.specs.declared.context.Setting.TheVariants as setting
+use Rattle.oxt_grammar.specs.declared.kind.Kind.{Kind}
+use Rattle.oxt_grammar.specs.declared.kind.Kind.TheVariants as kind
 use Rattle.oxt_tree.specs.Doc.{Doc, Docs}
 use Rattle.oxt_tree.specs.Fields.{named, field_of, elements, docs_list, first, count, is_nil, is_set, is_text, is_kind, is_in}
 use Rattle.oxt_tree.specs.Inner.{seen}

@@ -1,8 +1,8 @@
 -- Documents without TypeScript.
 use Rattle.std.specs.Prelude.{List, [], ◌∷◌, Bool, true, not, ◌&&◌, ◌||◌}
-use Rattle.oxt_table.specs.Field.{Field, is_typescript_field}
-use Rattle.oxt_table.specs.Kinds.{is_typescript_kind}
-use Rattle.oxt_table.specs.Rows.{row_of}
+use Rattle.oxt_grammar.specs.Field.{Field, is_typescript_field}
+use Rattle.oxt_grammar.specs.Kinds.{is_typescript_kind}
+use Rattle.oxt_grammar.specs.Rows.{row_of}
 use Rattle.oxt_tree.specs.Doc.{Doc, nil, flag, number, text, list, node, Docs, no_docs, doc}
 use Rattle.oxt_tree.specs.Fields.{is_default}
 

@@ -7,9 +7,9 @@ ghost use Rattle.oxt_tree.specs.Inner.{seen};
 ghost use Rattle.oxt_tree.specs.Fields.{named, field_of, elements, docs_list, is_nil, is_set, is_kind};
 ghost use Rattle.oxt_tree.specs.View.{docs_in, field_in, part_doc};
 
-use oxt_table::category::Category;
-use oxt_table::context::{Condition, Setting};
-use oxt_table::kind::Kind;
+use oxt_grammar::category::Category;
+use oxt_grammar::context::{Condition, Setting};
+use oxt_grammar::kind::Kind;
 use oxt_tree::fields::count;
 use oxt_tree::tree::{Node, Part};
 

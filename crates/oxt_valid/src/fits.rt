@@ -2,19 +2,19 @@
 ghost use Rattle.std.specs.Prelude.{◌≡◌, map, is_none};
 ghost use Rattle.std.specs.List.{list_any};
 ghost use Rattle.std.specs.Str.{bytes_eq};
-ghost use Rattle.oxt_table.specs.Words.{text_of};
-ghost use Rattle.oxt_table.specs.Field.{row_view};
-ghost use Rattle.oxt_table.specs.Places.{category_of};
+ghost use Rattle.oxt_grammar.specs.Words.{text_of};
+ghost use Rattle.oxt_grammar.specs.Field.{row_view};
+ghost use Rattle.oxt_grammar.specs.Places.{category_of};
 ghost use Rattle.oxt_valid.specs.Condition.{fault};
 ghost use Rattle.oxt_valid.specs.Valid.{allows_text, is_among, is_kind_of, is_tree, fits, fields_fit, all_fit};
 ghost use Rattle.oxt_tree.specs.View.{docs_in, node_doc, part_doc};
 
 use crate::condition::fault;
-use oxt_table::category::Category;
-use oxt_table::context::Setting;
-use oxt_table::holds::{Holds, Row};
-use oxt_table::kind::Kind;
-use oxt_table::word::{Word, Words};
+use oxt_grammar::category::Category;
+use oxt_grammar::context::Setting;
+use oxt_grammar::holds::{Holds, Row};
+use oxt_grammar::kind::Kind;
+use oxt_grammar::word::{Word, Words};
 use oxt_tree::ids::Span;
 use oxt_tree::tree::{Node, Part};
 

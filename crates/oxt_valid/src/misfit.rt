@@ -1,10 +1,10 @@
 //! The first place at which a tree is none of the grammar.
 ghost use Rattle.std.specs.Prelude.{◌≡◌, IfOk, map, option_map, string_bytes, is_none};
 ghost use Rattle.std.specs.Fmt.{decimal};
-ghost use Rattle.oxt_table.specs.Field.{row_view};
-ghost use Rattle.oxt_table.specs.Places.{category_of, narrow};
-ghost use Rattle.oxt_table.specs.Rows.{row_of};
-ghost use Rattle.oxt_table.specs.Context.{setting_of};
+ghost use Rattle.oxt_grammar.specs.Field.{row_view};
+ghost use Rattle.oxt_grammar.specs.Places.{category_of, narrow};
+ghost use Rattle.oxt_grammar.specs.Rows.{row_of};
+ghost use Rattle.oxt_grammar.specs.Context.{setting_of};
 ghost use Rattle.oxt_tree.specs.Names.{name_bytes};
 ghost use Rattle.oxt_tree.specs.View.{docs_in, node_doc, part_doc};
 ghost use Rattle.oxt_valid.specs.Condition.{fault};
@@ -14,9 +14,9 @@ ghost use Rattle.oxt_valid.specs.Valid.{allows_text, is_tree};
 use crate::condition::fault;
 use crate::fits::allows_text;
 use crate::place::{at, place_below, place_below_index};
-use oxt_table::category::Category;
-use oxt_table::context::Setting;
-use oxt_table::holds::{Holds, Row};
+use oxt_grammar::category::Category;
+use oxt_grammar::context::Setting;
+use oxt_grammar::holds::{Holds, Row};
 use oxt_tree::ids::{OutOfMemory, Span};
 use oxt_tree::name::Name;
 use oxt_tree::tree::{Node, Part};

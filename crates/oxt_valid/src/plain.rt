@@ -1,10 +1,10 @@
 //! Which nodes hold nothing of TypeScript.
 ghost use Rattle.std.specs.Prelude.{◌≡◌, map};
-ghost use Rattle.oxt_table.specs.Field.{row_view};
+ghost use Rattle.oxt_grammar.specs.Field.{row_view};
 ghost use Rattle.oxt_valid.specs.Plain.{is_plain, all_plain, fields_plain};
 ghost use Rattle.oxt_tree.specs.View.{docs_in, node_doc, part_doc};
 
-use oxt_table::holds::Row;
+use oxt_grammar::holds::Row;
 use oxt_tree::tree::{Node, Part};
 
 /// Whether no node in the tree has a kind or a field of TypeScript.

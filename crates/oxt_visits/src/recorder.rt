@@ -50,22 +50,21 @@ impl Recorder {
 }
 
 impl Traverse for Recorder {
-    ghost use Rattle.oxt_traverse.specs.Reading.{reads_nothing, watches_nothing};
-
-    fn at_node(&mut self, hook: Hook, node: &Node, ctx: &TraverseCtx) -> Result<(), OutOfMemory> {
+    fn at_node(
+        &mut self,
+        hook: Hook,
+        node: &mut Node,
+        ctx: &mut TraverseCtx,
+    ) -> Result<(), OutOfMemory> {
         self.note(hook, node.id.0, ctx)
     }
 
     fn at_statements(
         &mut self,
         hook: Hook,
-        _statements: &[Part],
-        ctx: &TraverseCtx,
+        _statements: &mut Vec<Part>,
+        ctx: &mut TraverseCtx,
     ) -> Result<(), OutOfMemory> {
         self.note(hook, 0, ctx)
     }
-
-    ghost lawful = { reads_nothing };
-
-    ghost watching = { watches_nothing };
 }

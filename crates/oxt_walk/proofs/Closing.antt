@@ -1,17 +1,20 @@
 -- Leaving lists among whose statements nothing waits and for which nothing is declared.
-use Rattle.std.proofs.Common.{◌≡◌, ℕ, ◌∙◌, ◌+◌, ◌-◌, ◌<◌, List, [], ◌∷◌, ◌++◌, length, take, drop, Bool, true, false, cond, Option, None, unwrap_or, ap, arith, refl}
+use Rattle.std.proofs.Common.{◌≡◌, ℕ, ◌∙◌, ◌-◌, ◌<◌, List, [], ◌∷◌, ◌++◌, length, take, Bool, true, false, cond, Option, None, unwrap_or, ap, arith, refl, sym}
 use Rattle.std.specs.List.{list_any}
 use Rattle.std.specs.Prelude.{◌==◌}
 use Rattle.std.proofs.lemmas.List.{take-append-drop}
 use Rattle.std.proofs.Math.Seq.{take-append_seam}
+use Rattle.oxt_ctx.specs.Context.{Context}
 use Rattle.oxt_stores.specs.Frame.{Frame, below_top, no_declarators, top_frame}
-use Rattle.oxt_stores.specs.Insertion.{Entry, docs}
+use Rattle.oxt_stores.specs.Insertion.{Entry, docs, pending}
 use Rattle.oxt_stores.specs.Placed.{around, found, is_numbered, left, placed, waiting_for, without}
-use Rattle.oxt_traverse.specs.Reading.{IsReading}
+use Rattle.oxt_traverse.specs.Level.{IsUntouched, declared, waits}
 use Rattle.oxt_tree.specs.Doc.{Doc, nil, flag, number, text, list, node, docs_of}
 use Rattle.oxt_tree.specs.View.{docs_in}
 use Rattle.oxt_tree.specs.declared.tree.Part.{Part}
+use Rattle.oxt_walk.proofs.Steps.{watched_as}
 use Rattle.oxt_walk.specs.Closed.{arrow_body, declarations, imports, with_declarations}
+use Rattle.oxt_walk.specs.Watched.{IsWatched}
 
 -- nothing waits
 abbrev pub Nothing : (ℕ → Option (List Entry)) → Type 0
@@ -88,17 +91,27 @@ pub arrow_quiet : (next : ℕ) (fs gs : List Frame) (d e : Doc) → gs ≡ fs ++
 arrow_quiet next fs gs d e pushed closed =
     closed ∙ ap (λ f. arrow_body next f (declarations next f) d) (top_none fs gs pushed)
 
--- ---- what is seen
+-- ---- what is left as it was
 
--- a list of statements reads the same once it is left
-pub statements_read : (read : Doc → Doc) (quiet : Bool) → IsReading read quiet → (is_body : Bool) (next : ℕ) (fs gs : List Frame) (p : ℕ → Option (List Entry)) (ps qs : List Part) → (quiet ≡ true → gs ≡ fs ++ no_declarators ∷ []) → (quiet ≡ true → Nothing p) → docs qs ≡ with_declarations is_body (declarations next (top_frame gs)) (placed (docs ps) p) → read (list (docs_in qs)) ≡ read (list (docs_in ps))
-statements_read read true lawful is_body next fs gs p ps qs pushed nothing closed =
-    ap (λ ds. read (list (docs_of ds))) (closed_quiet is_body next fs gs p (docs ps) (docs qs) (pushed refl) (nothing refl) closed)
-statements_read read false lawful is_body next fs gs p ps qs pushed nothing closed =
-    lawful.of_nothing refl (list (docs_in qs)) (list (docs_in ps))
+-- a list of statements that is left
+pub statements_untouched : (w is_body : Bool) (next : ℕ) (d : Doc) (a b c l : Context) (ps qs : List Part) → b.injector ≡ a.injector → declared b ≡ declared a ++ no_declarators ∷ [] → IsUntouched (IsWatched w b) d (list (docs_in ps)) b c → docs qs ≡ with_declarations is_body (declarations next (top_frame (declared c))) (placed (docs ps) (waits c)) → ((n : ℕ) → waits l n ≡ left (waits c) (docs ps) n) → declared l ≡ below_top (declared c) → IsUntouched (IsWatched w a) d (list (docs_in qs)) a l
+statements_untouched w is_body next d a b c l ps qs same opened inside closed waited popped =
+    let inner : IsWatched w a → IsWatched w b = watched_as w a b same in
+    let nothing : IsWatched w a → Nothing (waits c) = λ v n. inside.waiting (inner v) n ∙ (inner v).idle n in
+    let pushed : IsWatched w a → declared c ≡ declared a ++ no_declarators ∷ [] = λ v. inside.declarators (inner v) ∙ opened in
+    record {
+      document = λ v. ap (λ ds. list (docs_of ds)) (closed_quiet is_body next (declared a) (declared c) (waits c) (docs ps) (docs qs) (pushed v) (nothing v) closed) ∙ inside.document (inner v);
+      waiting = λ v n. waited n ∙ (left_nothing (waits c) (nothing v) (docs ps) n ∙ sym (v.idle n));
+      declarators = λ v. popped ∙ below_pushed (declared a) (declared c) (pushed v);
+    }
 
--- and so does the expression of an arrow
-pub expression_reads : (read : Doc → Doc) (quiet : Bool) → IsReading read quiet → (next : ℕ) (fs gs : List Frame) (d e : Doc) → (quiet ≡ true → gs ≡ fs ++ no_declarators ∷ []) → e ≡ arrow_body next (top_frame gs) (declarations next (top_frame gs)) d → read e ≡ read d
-expression_reads read true lawful next fs gs d e pushed closed =
-    ap read (arrow_quiet next fs gs d e (pushed refl) closed)
-expression_reads read false lawful next fs gs d e pushed closed = lawful.of_nothing refl e d
+-- the expression of an arrow that is left
+pub expression_untouched : (w : Bool) (next : ℕ) (d e f : Doc) (a b c l : Context) → b.injector ≡ a.injector → declared b ≡ declared a ++ no_declarators ∷ [] → IsUntouched (IsWatched w b) d e b c → f ≡ arrow_body next (top_frame (declared c)) (declarations next (top_frame (declared c))) e → l.injector ≡ c.injector → declared l ≡ below_top (declared c) → IsUntouched (IsWatched w a) d f a l
+expression_untouched w next d e f a b c l same opened inside closed waited popped =
+    let inner : IsWatched w a → IsWatched w b = watched_as w a b same in
+    let pushed : IsWatched w a → declared c ≡ declared a ++ no_declarators ∷ [] = λ v. inside.declarators (inner v) ∙ opened in
+    record {
+      document = λ v. arrow_quiet next (declared a) (declared c) e f (pushed v) closed ∙ inside.document (inner v);
+      waiting = λ v n. ap (λ i. pending i n) waited ∙ (inside.waiting (inner v) n ∙ ap (λ i. pending i n) same);
+      declarators = λ v. popped ∙ below_pushed (declared a) (declared c) (pushed v);
+    }

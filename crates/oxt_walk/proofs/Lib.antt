@@ -1,5 +1,4 @@
 pub mod Closing
 pub mod Imports
-pub mod Readings
 pub mod Steps
 pub mod Visiting

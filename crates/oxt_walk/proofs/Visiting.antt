@@ -1,17 +1,16 @@
 -- The visits of a walk, a part at a time.
-use Rattle.std.proofs.Common.{◌≡◌, refl, sym, ◌∙◌, ℕ, zero, suc, ◌+◌, ◌-◌, ◌<◌, ◌≤◌, ◌≢◌, List, [], ◌∷◌, ◌++◌, length, map, drop, get_or, min, Bool, true, cond, None, Some, ap, arith, add-one}
+use Rattle.std.proofs.Common.{◌≡◌, refl, sym, ◌∙◌, ℕ, zero, suc, ◌+◌, ◌-◌, ◌<◌, ◌≤◌, ◌≢◌, List, [], ◌∷◌, ◌++◌, length, map, drop, get_or, min, cond, None, Some, ap, arith, add-one}
 use Rattle.std.specs.List.{position_from, slice_get}
 use Rattle.std.specs.Str.{bytes_eq}
 use Rattle.std.proofs.lemmas.Bool.{ne_eqb}
 use Rattle.std.proofs.Math.Seq.{drop-cons}
 use Rattle.std.proofs.Math.ListN.{set}
-use Rattle.oxt_table.specs.Field.{row_view}
-use Rattle.oxt_table.specs.Rows.{row_of}
-use Rattle.oxt_table.specs.declared.category.Category.{Category}
-use Rattle.oxt_table.specs.declared.holds.Row.{Row}
-use Rattle.oxt_table.specs.declared.kind.Kind.{Kind}
-use Rattle.oxt_traverse.proofs.Logs.{Remains, logged_as, logged_on, logged_one, rest_more, rest_none, same_doc}
-use Rattle.oxt_traverse.specs.Reading.{IsWatching}
+use Rattle.oxt_grammar.specs.Field.{row_view}
+use Rattle.oxt_grammar.specs.Rows.{row_of}
+use Rattle.oxt_grammar.specs.declared.category.Category.{Category}
+use Rattle.oxt_grammar.specs.declared.holds.Row.{Row}
+use Rattle.oxt_grammar.specs.declared.kind.Kind.{Kind}
+use Rattle.oxt_traverse.proofs.Logs.{Remains, logged_as, logged_on, logged_one, rest_more, rest_none}
 use Rattle.oxt_traverse.specs.Visits.{HasLogged, Visit, visit, entered, left}
 use Rattle.oxt_traverse.specs.declared.hook.Hook.TheVariants as hook
 use Rattle.oxt_tree.proofs.Lists.{drop_at}
@@ -41,9 +40,9 @@ each_more ps i p q c n lt here =
     ∙ ap (λ qs. of_element (part_doc p) (visits (part_doc p) c n) ++ visits_each (docs_in qs) c n) (sym (drop_set ps i q))
 
 -- an element is walked
-pub elements_more : (watches : Bool) (trace : Visit → List Visit) (a b l all : List Visit) (ps : List Part) (i : ℕ) (p q : Part) (c : Category) (n : ℕ) → i < length ps → p ≡ get_or ps i p → HasLogged watches trace b l (of_element (part_doc p) (visits (part_doc p) c n)) → Remains watches trace a b all (visits_each (docs_in (drop i ps)) c n) → Remains watches trace a l all (visits_each (docs_in (drop (i + 1) (set ps i q))) c n)
-elements_more watches trace a b l all ps i p q c n lt here logged before =
-    rest_more watches trace a b l all (visits_each (docs_in (drop i ps)) c n) (of_element (part_doc p) (visits (part_doc p) c n)) (visits_each (docs_in (drop (i + 1) (set ps i q))) c n) (each_more ps i p q c n lt here) before logged
+pub elements_more : (Premise : Type 0) (trace : Visit → List Visit) (a b l all : List Visit) (ps : List Part) (i : ℕ) (p q : Part) (c : Category) (n : ℕ) → i < length ps → p ≡ get_or ps i p → HasLogged Premise trace b l (of_element (part_doc p) (visits (part_doc p) c n)) → Remains Premise trace a b all (visits_each (docs_in (drop i ps)) c n) → Remains Premise trace a l all (visits_each (docs_in (drop (i + 1) (set ps i q))) c n)
+elements_more Premise trace a b l all ps i p q c n lt here logged before =
+    rest_more Premise trace a b l all (visits_each (docs_in (drop i ps)) c n) (of_element (part_doc p) (visits (part_doc p) c n)) (visits_each (docs_in (drop (i + 1) (set ps i q))) c n) (each_more ps i p q c n lt here) before logged
 
 -- ---- fields
 
@@ -61,9 +60,9 @@ fields_next rs ps i r p q n lt_rs lt_ps at_p =
     ∙ ap (λ qs. in_row rs i r p n ++ visits_fields (docs_in qs) (map row_view (drop (i + 1) rs)) n) (sym (drop_set ps i q)))
 
 -- a field is walked
-pub fields_more : (watches : Bool) (trace : Visit → List Visit) (a b l all : List Visit) (rs : List Row) (ps : List Part) (i : ℕ) (r : Row) (p q : Part) (n : ℕ) → i < length rs → i < length ps → p ≡ get_or ps i p → HasLogged watches trace b l (of_field (place_of (get_or rs i r).holds) (visits (part_doc p)) n) → Remains watches trace a b all (visits_fields (docs_in (drop i ps)) (map row_view (drop i rs)) n) → Remains watches trace a l all (visits_fields (docs_in (drop (i + 1) (set ps i q))) (map row_view (drop (i + 1) rs)) n)
-fields_more watches trace a b l all rs ps i r p q n lt_rs lt_ps at_p logged before =
-    rest_more watches trace a b l all (visits_fields (docs_in (drop i ps)) (map row_view (drop i rs)) n) (in_row rs i r p n) (visits_fields (docs_in (drop (i + 1) (set ps i q))) (map row_view (drop (i + 1) rs)) n) (fields_next rs ps i r p q n lt_rs lt_ps at_p) before logged
+pub fields_more : (Premise : Type 0) (trace : Visit → List Visit) (a b l all : List Visit) (rs : List Row) (ps : List Part) (i : ℕ) (r : Row) (p q : Part) (n : ℕ) → i < length rs → i < length ps → p ≡ get_or ps i p → HasLogged Premise trace b l (of_field (place_of (get_or rs i r).holds) (visits (part_doc p)) n) → Remains Premise trace a b all (visits_fields (docs_in (drop i ps)) (map row_view (drop i rs)) n) → Remains Premise trace a l all (visits_fields (docs_in (drop (i + 1) (set ps i q))) (map row_view (drop (i + 1) rs)) n)
+fields_more Premise trace a b l all rs ps i r p q n lt_rs lt_ps at_p logged before =
+    rest_more Premise trace a b l all (visits_fields (docs_in (drop i ps)) (map row_view (drop i rs)) n) (in_row rs i r p n) (visits_fields (docs_in (drop (i + 1) (set ps i q))) (map row_view (drop (i + 1) rs)) n) (fields_next rs ps i r p q n lt_rs lt_ps at_p) before logged
 
 no_rows : (ps : List Part) (n : ℕ) → visits_fields (docs_in ps) [] n ≡ []
 no_rows [] n = refl
@@ -78,50 +77,49 @@ fields_over (r ∷ rs) (p ∷ ps) zero n e = absurd (omega arith)
 fields_over (r ∷ rs) (p ∷ ps) (suc i) n e = fields_over rs ps i n (omega arith)
 
 -- all are
-pub fields_none : (watches : Bool) (trace : Visit → List Visit) (a b : List Visit) (k : Kind) (ds : Docs) (rs : List Row) (ps : List Part) (i n : ℕ) → map row_view rs ≡ row_of k → i ≡ min (length rs) (length ps) → Remains watches trace a b (visits_fields ds (map row_view rs) n) (visits_fields (docs_in (drop i ps)) (map row_view (drop i rs)) n) → HasLogged watches trace a b (visits_fields ds (row_of k) n)
-fields_none watches trace a b k ds rs ps i n rows last before =
-    logged_as watches trace a b (visits_fields ds (map row_view rs) n) (visits_fields ds (row_of k) n) (λ w. ap (λ fs. visits_fields ds fs n) rows)
-    (rest_none watches trace a b (visits_fields ds (map row_view rs) n) (visits_fields (docs_in (drop i ps)) (map row_view (drop i rs)) n) (fields_over rs ps i n last) before)
+pub fields_none : (Premise : Type 0) (trace : Visit → List Visit) (a b : List Visit) (k : Kind) (ds : Docs) (rs : List Row) (ps : List Part) (i n : ℕ) → map row_view rs ≡ row_of k → i ≡ min (length rs) (length ps) → Remains Premise trace a b (visits_fields ds (map row_view rs) n) (visits_fields (docs_in (drop i ps)) (map row_view (drop i rs)) n) → HasLogged Premise trace a b (visits_fields ds (row_of k) n)
+fields_none Premise trace a b k ds rs ps i n rows last before =
+    logged_as Premise trace a b (visits_fields ds (map row_view rs) n) (visits_fields ds (row_of k) n) (λ w. ap (λ fs. visits_fields ds fs n) rows)
+    (rest_none Premise trace a b (visits_fields ds (map row_view rs) n) (visits_fields (docs_in (drop i ps)) (map row_view (drop i rs)) n) (fields_over rs ps i n last) before)
 
 -- ---- nodes and lists of statements
 
 -- A node of which the hooks and what is in it are visited. What the hooks and the walk leave is what
 -- was there.
-pub node_logged : (watches : Bool) (trace : Visit → List Visit) (a b l m : List Visit) (p : Category) (n : ℕ) (d e f : Doc) → n ≢ 0 → (watches ≡ true → e ≡ d) → (watches ≡ true → f ≡ d) → HasLogged watches trace a b (entered p d) → HasLogged watches trace b l (inside e (n - 1)) → HasLogged watches trace l m (left p f) → HasLogged watches trace a m (with_hooks p n d (inside d (n - 1)))
-node_logged watches trace a b l m p n d e f some same_e same_f first second third =
-    let rest : HasLogged watches trace b m (inside e (n - 1) ++ left p f) = logged_on watches trace b l m (inside e (n - 1)) (left p f) second third in
-    logged_as watches trace a m (entered p d ++ (inside e (n - 1) ++ left p f)) (with_hooks p n d (inside d (n - 1)))
+pub node_logged : (Premise : Type 0) (trace : Visit → List Visit) (a b l m : List Visit) (p : Category) (n : ℕ) (d e f : Doc) → n ≢ 0 → (Premise → e ≡ d) → (Premise → f ≡ d) → HasLogged Premise trace a b (entered p d) → HasLogged Premise trace b l (inside e (n - 1)) → HasLogged Premise trace l m (left p f) → HasLogged Premise trace a m (with_hooks p n d (inside d (n - 1)))
+node_logged Premise trace a b l m p n d e f some same_e same_f first second third =
+    let rest : HasLogged Premise trace b m (inside e (n - 1) ++ left p f) = logged_on Premise trace b l m (inside e (n - 1)) (left p f) second third in
+    logged_as Premise trace a m (entered p d ++ (inside e (n - 1) ++ left p f)) (with_hooks p n d (inside d (n - 1)))
     (λ w. ap (λ x. entered p d ++ (inside x (n - 1) ++ left p f)) (same_e w)
     ∙ (ap (λ x. entered p d ++ (inside d (n - 1) ++ left p x)) (same_f w)
     ∙ ap (λ b. cond b [] (entered p d ++ (inside d (n - 1) ++ left p d))) (sym (ne_eqb n 0 some))))
-    (logged_on watches trace a b m (entered p d) (inside e (n - 1) ++ left p f) first rest)
+    (logged_on Premise trace a b m (entered p d) (inside e (n - 1) ++ left p f) first rest)
 
 -- the same of a list of statements
-pub statements_logged : (watches : Bool) (trace : Visit → List Visit) (a b l m : List Visit) (at : Docs → List Visit) (ds es fs : Docs) → (watches ≡ true → es ≡ ds) → (watches ≡ true → fs ≡ ds) → b ≡ a ++ trace (visit hook.EnterStatements (list ds)) → HasLogged watches trace b l (at es) → m ≡ l ++ trace (visit hook.ExitStatements (list fs)) → HasLogged watches trace a m (of_statements (list ds) (at ds))
-statements_logged watches trace a b l m at ds es fs same_es same_fs first second third =
-    let one = logged_one watches trace a b (visit hook.EnterStatements (list ds)) first in
-    let last = logged_one watches trace l m (visit hook.ExitStatements (list fs)) third in
-    let rest = logged_on watches trace b l m (at es) (visit hook.ExitStatements (list fs) ∷ []) second last in
-    logged_as watches trace a m (visit hook.EnterStatements (list ds) ∷ (at es ++ visit hook.ExitStatements (list fs) ∷ [])) (of_statements (list ds) (at ds))
+pub statements_logged : (Premise : Type 0) (trace : Visit → List Visit) (a b l m : List Visit) (at : Docs → List Visit) (ds es fs : Docs) → (Premise → es ≡ ds) → (Premise → fs ≡ ds) → b ≡ a ++ trace (visit hook.EnterStatements (list ds)) → HasLogged Premise trace b l (at es) → m ≡ l ++ trace (visit hook.ExitStatements (list fs)) → HasLogged Premise trace a m (of_statements (list ds) (at ds))
+statements_logged Premise trace a b l m at ds es fs same_es same_fs first second third =
+    let one = logged_one Premise trace a b (visit hook.EnterStatements (list ds)) first in
+    let last = logged_one Premise trace l m (visit hook.ExitStatements (list fs)) third in
+    let rest = logged_on Premise trace b l m (at es) (visit hook.ExitStatements (list fs) ∷ []) second last in
+    logged_as Premise trace a m (visit hook.EnterStatements (list ds) ∷ (at es ++ visit hook.ExitStatements (list fs) ∷ [])) (of_statements (list ds) (at ds))
     (λ w. ap (λ xs. visit hook.EnterStatements (list ds) ∷ (at xs ++ visit hook.ExitStatements (list fs) ∷ [])) (same_es w)
     ∙ ap (λ xs. visit hook.EnterStatements (list ds) ∷ (at ds ++ visit hook.ExitStatements (list xs) ∷ [])) (same_fs w))
-    (logged_on watches trace a b m (visit hook.EnterStatements (list ds) ∷ []) (at es ++ visit hook.ExitStatements (list fs) ∷ []) one rest)
+    (logged_on Premise trace a b m (visit hook.EnterStatements (list ds) ∷ []) (at es ++ visit hook.ExitStatements (list fs) ∷ []) one rest)
 
 -- and of a program
-pub program_logged : (watches : Bool) (trace : Visit → List Visit) (a b l m : List Visit) (at : Doc → List Visit) (d e f : Doc) → (watches ≡ true → e ≡ d) → (watches ≡ true → f ≡ d) → b ≡ a ++ trace (visit hook.EnterProgram d) → HasLogged watches trace b l (at e) → m ≡ l ++ trace (visit hook.ExitProgram f) → HasLogged watches trace a m (visit hook.EnterProgram d ∷ (at d ++ visit hook.ExitProgram d ∷ []))
-program_logged watches trace a b l m at d e f same_e same_f first second third =
-    let one = logged_one watches trace a b (visit hook.EnterProgram d) first in
-    let last = logged_one watches trace l m (visit hook.ExitProgram f) third in
-    let rest = logged_on watches trace b l m (at e) (visit hook.ExitProgram f ∷ []) second last in
-    logged_as watches trace a m (visit hook.EnterProgram d ∷ (at e ++ visit hook.ExitProgram f ∷ [])) (visit hook.EnterProgram d ∷ (at d ++ visit hook.ExitProgram d ∷ []))
+pub program_logged : (Premise : Type 0) (trace : Visit → List Visit) (a b l m : List Visit) (at : Doc → List Visit) (d e f : Doc) → (Premise → e ≡ d) → (Premise → f ≡ d) → b ≡ a ++ trace (visit hook.EnterProgram d) → HasLogged Premise trace b l (at e) → m ≡ l ++ trace (visit hook.ExitProgram f) → HasLogged Premise trace a m (visit hook.EnterProgram d ∷ (at d ++ visit hook.ExitProgram d ∷ []))
+program_logged Premise trace a b l m at d e f same_e same_f first second third =
+    let one = logged_one Premise trace a b (visit hook.EnterProgram d) first in
+    let last = logged_one Premise trace l m (visit hook.ExitProgram f) third in
+    let rest = logged_on Premise trace b l m (at e) (visit hook.ExitProgram f ∷ []) second last in
+    logged_as Premise trace a m (visit hook.EnterProgram d ∷ (at e ++ visit hook.ExitProgram f ∷ [])) (visit hook.EnterProgram d ∷ (at d ++ visit hook.ExitProgram d ∷ []))
     (λ w. ap (λ x. visit hook.EnterProgram d ∷ (at x ++ visit hook.ExitProgram f ∷ [])) (same_e w)
     ∙ ap (λ x. visit hook.EnterProgram d ∷ (at d ++ visit hook.ExitProgram x ∷ [])) (same_f w))
-    (logged_on watches trace a b m (visit hook.EnterProgram d ∷ []) (at e ++ visit hook.ExitProgram f ∷ []) one rest)
+    (logged_on Premise trace a b m (visit hook.EnterProgram d ∷ []) (at e ++ visit hook.ExitProgram f ∷ []) one rest)
 
--- what a pass that watches leaves of a list is what was there
-pub same_list : (read : Doc → Doc) (watches quiet : Bool) → IsWatching watches read quiet → (ds es : Docs) → read (list ds) ≡ read (list es) → watches ≡ true → ds ≡ es
-same_list read watches quiet watching ds es same w =
-    ap elements (same_doc read watches quiet watching (list ds) (list es) same w)
+-- lists of which the documents are the same
+pub same_list : {Premise : Type 0} (ds es : Docs) → (Premise → list ds ≡ list es) → Premise → ds ≡ es
+same_list ds es same w = ap elements (same w)
 
 -- ---- the statements of a program
 

@@ -1,7 +1,7 @@
 -- Lists of statements as the walk leaves them.
 use Rattle.std.specs.Prelude.{ℕ, suc, ◌+◌, List, [], ◌∷◌, ◌++◌, take, drop, Bool, if◌then◌else◌, option_to_list}
 use Rattle.oxt_stores.specs.Frame.{Frame, let_statement, statements_made, var_statement}
-use Rattle.oxt_table.specs.declared.kind.Kind.TheVariants as kind
+use Rattle.oxt_grammar.specs.declared.kind.Kind.TheVariants as kind
 use Rattle.oxt_tree.specs.Doc.{Doc, list, node, no_docs, doc, docs_of}
 use Rattle.oxt_tree.specs.Fields.{is_kind}
 

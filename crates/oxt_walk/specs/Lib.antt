@@ -1,5 +1,5 @@
 pub mod Class
 pub mod Closed
-pub mod Idle
 pub mod Place
 pub mod Visited
+pub mod Watched

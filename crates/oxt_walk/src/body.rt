@@ -7,7 +7,7 @@ ghost use Rattle.oxt_tree.specs.View.{node_doc};
 ghost use Rattle.oxt_walk.specs.Closed.{arrow_body, body_of, declarations, returned};
 
 use oxt_ctx::context::TraverseCtx;
-use oxt_table::kind::Kind;
+use oxt_grammar::kind::Kind;
 use oxt_tree::ids::{NodeIds, OutOfMemory, Span};
 use oxt_tree::tree::{Node, Part};
 use std::alloc::Global;

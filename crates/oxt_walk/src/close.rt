@@ -8,8 +8,8 @@ ghost use Rattle.oxt_tree.specs.View.{node_doc, part_doc};
 ghost use Rattle.oxt_walk.specs.Closed.{below_imports, declarations, imports, with_declarations};
 
 use oxt_ctx::context::TraverseCtx;
+use oxt_grammar::kind::Kind;
 use oxt_stores::declarations::VarDeclarationsStore;
-use oxt_table::kind::Kind;
 use oxt_tree::ids::{NodeIds, OutOfMemory};
 use oxt_tree::tree::{Node, Part};
 

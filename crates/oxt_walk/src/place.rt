@@ -2,9 +2,9 @@
 ghost use Rattle.std.specs.Prelude.{◌≡◌};
 ghost use Rattle.oxt_walk.specs.Place.{is_body, is_statements, place_of};
 
-use oxt_table::category::Category;
-use oxt_table::holds::Holds;
-use oxt_table::kind::Kind;
+use oxt_grammar::category::Category;
+use oxt_grammar::holds::Holds;
+use oxt_grammar::kind::Kind;
 
 /// The place of the nodes that a field holds; none where it holds no nodes.
 pub fn place_of(holds: Holds) -> Option<Category>

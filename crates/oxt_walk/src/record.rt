@@ -8,7 +8,7 @@ ghost use Rattle.oxt_walk.specs.Class.{bound_name, class_name};
 
 use oxt_ctx::ancestor::AncestorRecord;
 use oxt_ctx::context::TraverseCtx;
-use oxt_table::kind::Kind;
+use oxt_grammar::kind::Kind;
 use oxt_tree::ids::OutOfMemory;
 use oxt_tree::name::Name;
 use oxt_tree::tree::{Node, Part};

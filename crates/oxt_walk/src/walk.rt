@@ -1,11 +1,11 @@
 //! The one walk over a tree.
 ghost use Rattle.std.specs.Prelude.{◌≡◌, OnOk, codes};
-ghost use Rattle.oxt_traverse.specs.Level.{IsAside, IsLevel, IsOpen};
+ghost use Rattle.oxt_traverse.specs.Level.{IsLevel, IsOpen, IsUntouched};
 ghost use Rattle.oxt_traverse.specs.Visits.{HasLogged};
 ghost use Rattle.oxt_tree.specs.Doc.{list};
 ghost use Rattle.oxt_tree.specs.Fields.{field_of};
 ghost use Rattle.oxt_tree.specs.View.{docs_in, node_doc, part_doc};
-ghost use Rattle.oxt_walk.specs.Idle.{IsIdle};
+ghost use Rattle.oxt_walk.specs.Watched.{IsWatched};
 ghost use Rattle.oxt_walk.specs.Place.{place_of as place_held};
 ghost use Rattle.oxt_walk.specs.Visited.{inside, of_body, of_element, of_field, of_statements, visits, visits_each, visits_of_program};
 
@@ -14,8 +14,8 @@ use crate::close::{close_statements, open_list};
 use crate::place::{is_body, is_statements, place_of};
 use crate::record::{go_into, go_out};
 use oxt_ctx::context::TraverseCtx;
-use oxt_table::category::Category;
-use oxt_table::holds::Holds;
+use oxt_grammar::category::Category;
+use oxt_grammar::holds::Holds;
 use oxt_traverse::dispatch::{enter_node, leave_node};
 use oxt_traverse::traverse::Traverse;
 use oxt_tree::fields;
@@ -32,9 +32,9 @@ pub const LEVELS: u32 = 1024;
 /// recorded in the context. When a list of statements is left, what waits beside its statements is
 /// placed, and then its declarators.
 ///
-/// `program` is a node of kind `Program`. What the pass keeps of a document, it keeps of the program
-/// (`Traverse`): where nothing waits at the start. The log of a pass that watches gets what the visits
-/// of the program add to it, each once and in order.
+/// `program` is a node of kind `Program`. Where nothing waits at the start, a pass that watches leaves
+/// the program as it was, and its log gets what the visits of the program add to it, each once and in
+/// order.
 ///
 /// # Errors
 ///
@@ -45,11 +45,9 @@ pub fn walk_program<T: Traverse>(
     program: &mut Node,
     ctx: &mut TraverseCtx,
 ) -> Result<(), OutOfMemory>
-    requires idle { IsIdle T.quiet ctx.old }
     ensures level { OnOk result (IsLevel ctx.old ctx.new) }
-    ensures read { OnOk result (T.read (node_doc program.new) ≡ T.read (node_doc program.old)) }
-    ensures aside { OnOk result (IsAside T.quiet ctx.old ctx.new) }
-    ensures logged { OnOk result (HasLogged T.watches T.trace (T.log pass.old) (T.log pass.new) (visits_of_program (node_doc program.old))) }
+    ensures untouched { OnOk result (IsUntouched (IsWatched T.watches ctx.old) (node_doc program.old) (node_doc program.new) ctx.old ctx.new) }
+    ensures logged { OnOk result (HasLogged (IsWatched T.watches ctx.old) T.trace (T.log pass.old) (T.log pass.new) (visits_of_program (node_doc program.old))) }
 {
     pass.enter_program(program, ctx)?;
     go_into(program, ctx)?;
@@ -64,11 +62,9 @@ fn walk_program_body<T: Traverse>(
     program: &mut Node,
     ctx: &mut TraverseCtx,
 ) -> Result<(), OutOfMemory>
-    requires idle { IsIdle T.quiet ctx.old }
     ensures level { OnOk result (IsLevel ctx.old ctx.new) }
-    ensures read { OnOk result (T.read (node_doc program.new) ≡ T.read (node_doc program.old)) }
-    ensures aside { OnOk result (IsAside T.quiet ctx.old ctx.new) }
-    ensures logged { OnOk result (HasLogged T.watches T.trace (T.log pass.old) (T.log pass.new) (of_body (field_of (codes "body") (node_doc program.old)))) }
+    ensures untouched { OnOk result (IsUntouched (IsWatched T.watches ctx.old) (node_doc program.old) (node_doc program.new) ctx.old ctx.new) }
+    ensures logged { OnOk result (HasLogged (IsWatched T.watches ctx.old) T.trace (T.log pass.old) (T.log pass.new) (of_body (field_of (codes "body") (node_doc program.old)))) }
 {
     match fields::place_of(program.kind.rows(), "body") {
         Some(place) => {
@@ -88,11 +84,9 @@ fn walk_body<T: Traverse>(
     part: &mut Part,
     ctx: &mut TraverseCtx,
 ) -> Result<(), OutOfMemory>
-    requires idle { IsIdle T.quiet ctx.old }
     ensures level { OnOk result (IsLevel ctx.old ctx.new) }
-    ensures read { OnOk result (T.read (part_doc part.new) ≡ T.read (part_doc part.old)) }
-    ensures aside { OnOk result (IsAside T.quiet ctx.old ctx.new) }
-    ensures logged { OnOk result (HasLogged T.watches T.trace (T.log pass.old) (T.log pass.new) (of_body (part_doc part.old))) }
+    ensures untouched { OnOk result (IsUntouched (IsWatched T.watches ctx.old) (part_doc part.old) (part_doc part.new) ctx.old ctx.new) }
+    ensures logged { OnOk result (HasLogged (IsWatched T.watches ctx.old) T.trace (T.log pass.old) (T.log pass.new) (of_body (part_doc part.old))) }
 {
     match part {
         Part::List(statements) => {
@@ -112,11 +106,9 @@ fn walk_node<T: Traverse>(
     ctx: &mut TraverseCtx,
 ) -> Result<(), OutOfMemory>
     requires open { IsOpen ctx.old }
-    requires idle { IsIdle T.quiet ctx.old }
     ensures level { OnOk result (IsLevel ctx.old ctx.new) }
-    ensures read { OnOk result (T.read (node_doc node.new) ≡ T.read (node_doc node.old)) }
-    ensures aside { OnOk result (IsAside T.quiet ctx.old ctx.new) }
-    ensures logged { OnOk result (HasLogged T.watches T.trace (T.log pass.old) (T.log pass.new) (visits (node_doc node.old) place levels)) }
+    ensures untouched { OnOk result (IsUntouched (IsWatched T.watches ctx.old) (node_doc node.old) (node_doc node.new) ctx.old ctx.new) }
+    ensures logged { OnOk result (HasLogged (IsWatched T.watches ctx.old) T.trace (T.log pass.old) (T.log pass.new) (visits (node_doc node.old) place levels)) }
 {
     if levels == 0 {
         return Ok(());
@@ -137,11 +129,9 @@ fn walk_fields<T: Traverse>(
     ctx: &mut TraverseCtx,
 ) -> Result<(), OutOfMemory>
     requires open { IsOpen ctx.old }
-    requires idle { IsIdle T.quiet ctx.old }
     ensures level { OnOk result (IsLevel ctx.old ctx.new) }
-    ensures read { OnOk result (T.read (node_doc node.new) ≡ T.read (node_doc node.old)) }
-    ensures aside { OnOk result (IsAside T.quiet ctx.old ctx.new) }
-    ensures logged { OnOk result (HasLogged T.watches T.trace (T.log pass.old) (T.log pass.new) (inside (node_doc node.old) levels)) }
+    ensures untouched { OnOk result (IsUntouched (IsWatched T.watches ctx.old) (node_doc node.old) (node_doc node.new) ctx.old ctx.new) }
+    ensures logged { OnOk result (HasLogged (IsWatched T.watches ctx.old) T.trace (T.log pass.old) (T.log pass.new) (inside (node_doc node.old) levels)) }
 {
     let rows = node.kind.rows();
     for i in 0..rows.len().min(node.parts.len()) {
@@ -160,11 +150,9 @@ fn walk_field<T: Traverse>(
     ctx: &mut TraverseCtx,
 ) -> Result<(), OutOfMemory>
     requires open { IsOpen ctx.old }
-    requires idle { IsIdle T.quiet ctx.old }
     ensures level { OnOk result (IsLevel ctx.old ctx.new) }
-    ensures read { OnOk result (T.read (part_doc part.new) ≡ T.read (part_doc part.old)) }
-    ensures aside { OnOk result (IsAside T.quiet ctx.old ctx.new) }
-    ensures logged { OnOk result (HasLogged T.watches T.trace (T.log pass.old) (T.log pass.new) (of_field (place_held holds) (visits (part_doc part.old)) levels)) }
+    ensures untouched { OnOk result (IsUntouched (IsWatched T.watches ctx.old) (part_doc part.old) (part_doc part.new) ctx.old ctx.new) }
+    ensures logged { OnOk result (HasLogged (IsWatched T.watches ctx.old) T.trace (T.log pass.old) (T.log pass.new) (of_field (place_held holds) (visits (part_doc part.old)) levels)) }
 {
     match place_of(holds) {
         Some(place) => walk_part(pass, part, place, levels, ctx),
@@ -182,11 +170,9 @@ fn walk_part<T: Traverse>(
     ctx: &mut TraverseCtx,
 ) -> Result<(), OutOfMemory>
     requires open { IsOpen ctx.old }
-    requires idle { IsIdle T.quiet ctx.old }
     ensures level { OnOk result (IsLevel ctx.old ctx.new) }
-    ensures read { OnOk result (T.read (part_doc part.new) ≡ T.read (part_doc part.old)) }
-    ensures aside { OnOk result (IsAside T.quiet ctx.old ctx.new) }
-    ensures logged { OnOk result (HasLogged T.watches T.trace (T.log pass.old) (T.log pass.new) (visits (part_doc part.old) place levels)) }
+    ensures untouched { OnOk result (IsUntouched (IsWatched T.watches ctx.old) (part_doc part.old) (part_doc part.new) ctx.old ctx.new) }
+    ensures logged { OnOk result (HasLogged (IsWatched T.watches ctx.old) T.trace (T.log pass.old) (T.log pass.new) (visits (part_doc part.old) place levels)) }
 {
     match part {
         Part::Node(node) => {
@@ -217,11 +203,9 @@ fn walk_statements<T: Traverse>(
     levels: u32,
     ctx: &mut TraverseCtx,
 ) -> Result<(), OutOfMemory>
-    requires idle { IsIdle T.quiet ctx.old }
     ensures level { OnOk result (IsLevel ctx.old ctx.new) }
-    ensures read { OnOk result (T.read (list (docs_in statements.new.items)) ≡ T.read (list (docs_in statements.old.items))) }
-    ensures aside { OnOk result (IsAside T.quiet ctx.old ctx.new) }
-    ensures logged { OnOk result (HasLogged T.watches T.trace (T.log pass.old) (T.log pass.new) (of_statements (list (docs_in statements.old.items)) (visits_each (docs_in statements.old.items) place levels))) }
+    ensures untouched { OnOk result (IsUntouched (IsWatched T.watches ctx.old) (list (docs_in statements.old.items)) (list (docs_in statements.new.items)) ctx.old ctx.new) }
+    ensures logged { OnOk result (HasLogged (IsWatched T.watches ctx.old) T.trace (T.log pass.old) (T.log pass.new) (of_statements (list (docs_in statements.old.items)) (visits_each (docs_in statements.old.items) place levels))) }
 {
     open_list(ctx)?;
     pass.enter_statements(statements, ctx)?;
@@ -240,11 +224,9 @@ fn walk_elements<T: Traverse>(
     ctx: &mut TraverseCtx,
 ) -> Result<(), OutOfMemory>
     requires open { IsOpen ctx.old }
-    requires idle { IsIdle T.quiet ctx.old }
     ensures level { OnOk result (IsLevel ctx.old ctx.new) }
-    ensures read { OnOk result (T.read (list (docs_in parts.new.items)) ≡ T.read (list (docs_in parts.old.items))) }
-    ensures aside { OnOk result (IsAside T.quiet ctx.old ctx.new) }
-    ensures logged { OnOk result (HasLogged T.watches T.trace (T.log pass.old) (T.log pass.new) (visits_each (docs_in parts.old.items) place levels)) }
+    ensures untouched { OnOk result (IsUntouched (IsWatched T.watches ctx.old) (list (docs_in parts.old.items)) (list (docs_in parts.new.items)) ctx.old ctx.new) }
+    ensures logged { OnOk result (HasLogged (IsWatched T.watches ctx.old) T.trace (T.log pass.old) (T.log pass.new) (visits_each (docs_in parts.old.items) place levels)) }
 {
     for i in 0..parts.len() {
         walk_element(pass, &mut parts[i], place, levels, ctx)?;
@@ -262,11 +244,9 @@ fn walk_element<T: Traverse>(
     ctx: &mut TraverseCtx,
 ) -> Result<(), OutOfMemory>
     requires open { IsOpen ctx.old }
-    requires idle { IsIdle T.quiet ctx.old }
     ensures level { OnOk result (IsLevel ctx.old ctx.new) }
-    ensures read { OnOk result (T.read (part_doc part.new) ≡ T.read (part_doc part.old)) }
-    ensures aside { OnOk result (IsAside T.quiet ctx.old ctx.new) }
-    ensures logged { OnOk result (HasLogged T.watches T.trace (T.log pass.old) (T.log pass.new) (of_element (part_doc part.old) (visits (part_doc part.old) place levels))) }
+    ensures untouched { OnOk result (IsUntouched (IsWatched T.watches ctx.old) (part_doc part.old) (part_doc part.new) ctx.old ctx.new) }
+    ensures logged { OnOk result (HasLogged (IsWatched T.watches ctx.old) T.trace (T.log pass.old) (T.log pass.new) (of_element (part_doc part.old) (visits (part_doc part.old) place levels))) }
 {
     match part {
         Part::Node(node) => walk_node(pass, node, place, levels, ctx),
@@ -284,11 +264,9 @@ fn walk_expression_body<T: Traverse>(
     ctx: &mut TraverseCtx,
 ) -> Result<(), OutOfMemory>
     requires open { IsOpen ctx.old }
-    requires idle { IsIdle T.quiet ctx.old }
     ensures level { OnOk result (IsLevel ctx.old ctx.new) }
-    ensures read { OnOk result (T.read (node_doc node.new) ≡ T.read (node_doc node.old)) }
-    ensures aside { OnOk result (IsAside T.quiet ctx.old ctx.new) }
-    ensures logged { OnOk result (HasLogged T.watches T.trace (T.log pass.old) (T.log pass.new) (visits (node_doc node.old) place levels)) }
+    ensures untouched { OnOk result (IsUntouched (IsWatched T.watches ctx.old) (node_doc node.old) (node_doc node.new) ctx.old ctx.new) }
+    ensures logged { OnOk result (HasLogged (IsWatched T.watches ctx.old) T.trace (T.log pass.old) (T.log pass.new) (visits (node_doc node.old) place levels)) }
 {
     open_list(ctx)?;
     walk_node(pass, node, place, levels, ctx)?;

@@ -4,10 +4,10 @@ use Rattle.std.proofs.lemmas.Bool.Decides.{nat_tests}
 use Rattle.std.specs.List.{position_from, slice_get}
 use Rattle.std.specs.Str.{bytes_eq}
 use Rattle.oxt_facts.specs.Facts.{Known}
-use Rattle.oxt_table.specs.Rows.{row_of}
-use Rattle.oxt_table.specs.declared.kind.Kind.{Kind}
-use Rattle.oxt_table.specs.Field.{Field, row_view}
-use Rattle.oxt_table.specs.declared.holds.Row.{Row}
+use Rattle.oxt_grammar.specs.Rows.{row_of}
+use Rattle.oxt_grammar.specs.declared.kind.Kind.{Kind}
+use Rattle.oxt_grammar.specs.Field.{Field, row_view}
+use Rattle.oxt_grammar.specs.declared.holds.Row.{Row}
 use Rattle.oxt_tree.proofs.Lists.{drop_at, drop_end}
 use Rattle.oxt_tree.proofs.Places.{doc_at, named_at}
 use Rattle.oxt_tree.specs.Doc.{Docs, no_docs, doc}
@@ -15,11 +15,11 @@ use Rattle.oxt_tree.specs.Fields.{at_name}
 use Rattle.oxt_tree.specs.View.{docs_in, doc_of_part, part_doc}
 use Rattle.oxt_tree.specs.declared.tree.Part.{Part}
 use Rattle.oxt_put.proofs.Details.{row_at}
-use Rattle.oxt_item.specs.Entry.{Entry, lone}
+use Rattle.oxt_facts.specs.Entry.{Entry, lone}
 use Rattle.oxt_put.specs.Details.{is_read}
 use Rattle.oxt_put.specs.Leaves.{dropped}
 use Rattle.oxt_word.specs.Word.{said, each_said, turns_said, last_said, fields_said, field_said}
-use Rattle.oxt_item.specs.declared.item.ItemKind.TheVariants as item
+use Rattle.oxt_facts.specs.declared.item.ItemKind.TheVariants as item
 use Rattle.oxt_word.specs.declared.way.Way.{Way}
 use Rattle.oxt_word.specs.declared.way.Way.TheVariants as way
 

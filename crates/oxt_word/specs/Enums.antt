@@ -1,12 +1,12 @@
 -- How blocks of enums, their members and the bare names of members are read.
 use Rattle.std.specs.Prelude.{ℕ, ◌+◌, ℤ, pos, negsuc, List, [], ◌∷◌, ◌++◌, Bool, true, false, not, ◌&&◌, if◌then◌else◌, codes}
 use Rattle.oxt_facts.specs.Told.{Block, Member, Value, constant, following, written}
-use Rattle.oxt_item.specs.Entry.{Entry, detail, detailed, lone, spelled}
-use Rattle.oxt_item.specs.declared.item.Binding.{Binding}
-use Rattle.oxt_item.specs.declared.item.Binding.TheVariants as binding
-use Rattle.oxt_item.specs.declared.item.ItemKind.TheVariants as item
-use Rattle.oxt_symbol.specs.Constant.{Constant, integer, string}
-use Rattle.oxt_table.specs.declared.kind.Kind.TheVariants as kind
+use Rattle.oxt_facts.specs.Entry.{Entry, detail, detailed, lone, spelled}
+use Rattle.oxt_facts.specs.declared.item.Binding.{Binding}
+use Rattle.oxt_facts.specs.declared.item.Binding.TheVariants as binding
+use Rattle.oxt_facts.specs.declared.item.ItemKind.TheVariants as item
+use Rattle.oxt_names.specs.Constant.{Constant, integer, string}
+use Rattle.oxt_grammar.specs.declared.kind.Kind.TheVariants as kind
 use Rattle.oxt_tree.specs.Doc.{Doc, flag, number, text, Docs}
 use Rattle.oxt_tree.specs.Fields.{first}
 use Rattle.oxt_put.specs.Details.{start}

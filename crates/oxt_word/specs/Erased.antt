@@ -1,13 +1,13 @@
 -- Which nodes do nothing, since only TypeScript has them.
 use Rattle.std.specs.Prelude.{List, [], ◌++◌, Bool, true, false, ◌||◌, codes}
-use Rattle.oxt_table.specs.declared.kind.Kind.{Kind}
-use Rattle.oxt_table.specs.declared.kind.Kind.TheVariants as kind
+use Rattle.oxt_grammar.specs.declared.kind.Kind.{Kind}
+use Rattle.oxt_grammar.specs.declared.kind.Kind.TheVariants as kind
 use Rattle.oxt_tree.specs.Doc.{Doc, Docs}
 use Rattle.oxt_tree.specs.Fields.{named, field_of, is_set, is_text, is_kind}
 use Rattle.oxt_tree.specs.Syntax.{is_mere_declaration, lacks_body}
-use Rattle.oxt_item.specs.Entry.{Entry, lone}
-use Rattle.oxt_item.specs.declared.item.Binding.TheVariants as binding
-use Rattle.oxt_item.specs.declared.item.ItemKind.TheVariants as item
+use Rattle.oxt_facts.specs.Entry.{Entry, lone}
+use Rattle.oxt_facts.specs.declared.item.Binding.TheVariants as binding
+use Rattle.oxt_facts.specs.declared.item.ItemKind.TheVariants as item
 use Rattle.oxt_put.specs.Details.{start}
 use Rattle.oxt_word.specs.declared.rule.Rule.{Rule}
 use Rattle.oxt_word.specs.declared.rule.Rule.TheVariants as rule

@@ -1,10 +1,10 @@
 -- How the general rule reads a node, and what rules get of its fields.
 use Rattle.std.specs.Prelude.{ℕ, List, ◌++◌}
-use Rattle.oxt_item.specs.Entry.{Entry, lone}
-use Rattle.oxt_item.specs.declared.item.ItemKind.TheVariants as item
+use Rattle.oxt_facts.specs.Entry.{Entry, lone}
+use Rattle.oxt_facts.specs.declared.item.ItemKind.TheVariants as item
 use Rattle.oxt_put.specs.Details.{details, start}
-use Rattle.oxt_table.specs.Rows.{row_of}
-use Rattle.oxt_table.specs.declared.kind.Kind.{Kind}
+use Rattle.oxt_grammar.specs.Rows.{row_of}
+use Rattle.oxt_grammar.specs.declared.kind.Kind.{Kind}
 use Rattle.oxt_tree.specs.Doc.{Docs}
 use Rattle.oxt_word.specs.declared.way.Way.{Way}
 

@@ -1,10 +1,10 @@
 -- How a node is read in the other ways.
 use Rattle.std.specs.Prelude.{List, [], ◌∷◌, ◌++◌, Bool, true, false, if◌then◌else◌, codes}
-use Rattle.oxt_table.specs.declared.kind.Kind.{Kind}
+use Rattle.oxt_grammar.specs.declared.kind.Kind.{Kind}
 use Rattle.oxt_tree.specs.Fields.{first}
 use Rattle.oxt_tree.specs.Doc.{Docs, flag, nil}
 use Rattle.oxt_tree.specs.Fields.{named, is_set, is_text}
-use Rattle.oxt_item.specs.Entry.{Entry, detail, detailed, lone, spelled}
+use Rattle.oxt_facts.specs.Entry.{Entry, detail, detailed, lone, spelled}
 use Rattle.oxt_facts.specs.Facts.{Known, is_made}
 use Rattle.oxt_forms.specs.Forms.{is_long}
 use Rattle.oxt_forms.specs.Made.{is_passing, is_quiet, passes_on}
@@ -12,8 +12,8 @@ use Rattle.oxt_put.specs.Details.{start}
 use Rattle.oxt_put.specs.Leaves.{bind_word, in_word, number_word, private_word}
 use Rattle.oxt_word.specs.Node.{opened, OneField, AllFields}
 use Rattle.oxt_word.specs.Whole.{class_word, declarator_word, function_word, variables_word, whole_word}
-use Rattle.oxt_item.specs.declared.item.Binding.{Binding}
-use Rattle.oxt_item.specs.declared.item.ItemKind.TheVariants as item
+use Rattle.oxt_facts.specs.declared.item.Binding.{Binding}
+use Rattle.oxt_facts.specs.declared.item.ItemKind.TheVariants as item
 use Rattle.oxt_word.specs.declared.rule.Rule.{Rule}
 use Rattle.oxt_word.specs.declared.rule.Rule.TheVariants as rule
 use Rattle.oxt_word.specs.declared.way.Way.TheVariants as way

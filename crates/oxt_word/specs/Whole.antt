@@ -1,11 +1,11 @@
 -- What a node does, by the rule of its kind.
 use Rattle.std.specs.Prelude.{ℕ, List, [], ◌∷◌, ◌++◌, Bool, true, false, ◌&&◌, if◌then◌else◌, Option, None, Some, codes}
-use Rattle.oxt_table.specs.declared.kind.Kind.{Kind}
-use Rattle.oxt_table.specs.declared.kind.Kind.TheVariants as kind
+use Rattle.oxt_grammar.specs.declared.kind.Kind.{Kind}
+use Rattle.oxt_grammar.specs.declared.kind.Kind.TheVariants as kind
 use Rattle.oxt_tree.specs.Fields.{first}
 use Rattle.oxt_tree.specs.Doc.{Doc, Docs, flag, text}
 use Rattle.oxt_tree.specs.Fields.{named, field_of, is_nil, is_set, is_text, is_kind, is_empty_list}
-use Rattle.oxt_item.specs.Entry.{Entry, binding_text, detail, detailed, lone, spelled}
+use Rattle.oxt_facts.specs.Entry.{Entry, binding_text, detail, detailed, lone, spelled}
 use Rattle.oxt_facts.specs.Facts.{Known, is_made}
 use Rattle.oxt_forms.specs.Forms.{within, is_put, is_long, is_found, is_found_made, is_called, binding_of}
 use Rattle.oxt_forms.specs.Made.{base_in, base_key, base_name, is_found_made_on, is_keep, is_silent}
@@ -13,10 +13,10 @@ use Rattle.oxt_facts.specs.Inside.{stored_at}
 use Rattle.oxt_put.specs.Details.{start}
 use Rattle.oxt_put.specs.Leaves.{base_word, bind_word, dropped, hash_word, name_word, number_word, private_word}
 use Rattle.oxt_word.specs.Node.{opened, OneField, AllFields}
-use Rattle.oxt_item.specs.declared.item.Binding.{Binding}
-use Rattle.oxt_item.specs.declared.item.ItemKind.{ItemKind}
-use Rattle.oxt_item.specs.declared.item.Binding.TheVariants as binding
-use Rattle.oxt_item.specs.declared.item.ItemKind.TheVariants as item
+use Rattle.oxt_facts.specs.declared.item.Binding.{Binding}
+use Rattle.oxt_facts.specs.declared.item.ItemKind.{ItemKind}
+use Rattle.oxt_facts.specs.declared.item.Binding.TheVariants as binding
+use Rattle.oxt_facts.specs.declared.item.ItemKind.TheVariants as item
 use Rattle.oxt_word.specs.declared.rule.Rule.{Rule}
 use Rattle.oxt_word.specs.declared.rule.Rule.TheVariants as rule
 use Rattle.oxt_word.specs.declared.way.Way.{Way}
@@ -132,12 +132,15 @@ if_word k ds c =
     opened k ds (c (codes "test") way.Whole
     ++ (c (codes "consequent") way.Branch ++ c (codes "alternate") way.Alternate))
 
+-- an import without its list
+abbrev pub listless_word : Kind → Docs → OneField → List Entry
+listless_word k ds c =
+    opened k ds (lone item.Nil ++ (c (codes "source") way.Whole ++ c (codes "withClause") way.Whole))
+
 -- An import of an empty list is one without a list.
 abbrev pub import_word : Kind → Docs → OneField → AllFields → List Entry
 import_word k ds c fs =
-    if is_empty_list (named (codes "specifiers") k ds)
-    then opened k ds (lone item.Nil ++ (c (codes "source") way.Whole ++ c (codes "withClause") way.Whole))
-    else opened k ds (fs way.Whole)
+    if is_empty_list (named (codes "specifiers") k ds) then listless_word k ds c else opened k ds (fs way.Whole)
 
 -- An export of an empty list does nothing.
 abbrev pub export_list_word : Kind → Docs → AllFields → List Entry

@@ -3,15 +3,15 @@ use Rattle.std.specs.Prelude.{ℕ, List, [], ◌∷◌, ◌++◌, if◌then◌el
 use Rattle.std.specs.Str.{bytes_eq}
 use Rattle.oxt_facts.specs.Facts.{Known}
 use Rattle.oxt_facts.specs.Inside.{inside}
-use Rattle.oxt_facts.specs.Told.{Telling, block, member, bare, told_of}
-use Rattle.oxt_table.specs.Field.{Field}
-use Rattle.oxt_table.specs.Rows.{row_of}
-use Rattle.oxt_table.specs.declared.kind.Kind.{Kind}
+use Rattle.oxt_facts.specs.Told.{Telling, block, member, bare, gone, listless, told_of}
+use Rattle.oxt_grammar.specs.Field.{Field}
+use Rattle.oxt_grammar.specs.Rows.{row_of}
+use Rattle.oxt_grammar.specs.declared.kind.Kind.{Kind}
 use Rattle.oxt_tree.specs.Doc.{Doc, nil, flag, number, text, list, node, Docs, no_docs, doc}
 use Rattle.oxt_tree.specs.View.{docs_in}
 use Rattle.oxt_tree.specs.declared.tree.Node.{Node}
-use Rattle.oxt_item.specs.Entry.{Entry, lone}
-use Rattle.oxt_item.specs.Tags.{numbered}
+use Rattle.oxt_facts.specs.Entry.{Entry, lone}
+use Rattle.oxt_facts.specs.Tags.{numbered}
 use Rattle.oxt_put.specs.Details.{is_read}
 use Rattle.oxt_put.specs.Leaves.{dropped}
 use Rattle.oxt_word.specs.Node.{OneField, AllFields}
@@ -19,8 +19,8 @@ use Rattle.oxt_word.specs.Enums.{bare_word, enum_word, is_exported, member_word}
 use Rattle.oxt_word.specs.Erased.{is_gone, gone_word}
 use Rattle.oxt_word.specs.RuleOf.{rule_of}
 use Rattle.oxt_word.specs.Ways.{target_word, bound_word, exported_word, entered_word, opened_word, passed_word, keyed_word, key_text, keys_word, statics_word, fields_word, methods_word, constructor_word}
-use Rattle.oxt_word.specs.Whole.{whole_word}
-use Rattle.oxt_item.specs.declared.item.ItemKind.TheVariants as item
+use Rattle.oxt_word.specs.Whole.{listless_word, whole_word}
+use Rattle.oxt_facts.specs.declared.item.ItemKind.TheVariants as item
 use Rattle.oxt_word.specs.declared.rule.Rule.{Rule}
 use Rattle.oxt_word.specs.declared.way.Way.{Way}
 use Rattle.oxt_word.specs.declared.way.Way.TheVariants as way
@@ -42,17 +42,22 @@ way_word f way.Methods r k ds c fs = methods_word f r k ds c fs
 way_word f way.Constructor r k ds c fs = constructor_word f r k ds c fs
 way_word f w r k ds c fs = whole_word f r k ds c fs
 
--- the same, but for what is told of the node
+-- the same, unless the node is erased
+abbrev pub own_word : Known → Way → Rule → Kind → Docs → OneField → AllFields → List Entry
+own_word f w r k ds c fs = if is_gone r k ds then gone_word w else way_word f w r k ds c fs
+
+-- What is told of a node goes before its own rule.
 abbrev pub told_word : Known → Option Telling → Way → Rule → Kind → Docs → OneField → AllFields → List Entry
-told_word f None w r k ds c fs = way_word f w r k ds c fs
+told_word f None w r k ds c fs = own_word f w r k ds c fs
 told_word f (Some (block b)) w r k ds c fs = enum_word b (is_exported w) c
 told_word f (Some (member m)) w r k ds c fs = member_word m c
 told_word f (Some (bare e)) w r k ds c fs = bare_word e w ds
+told_word f (Some gone) w r k ds c fs = gone_word w
+told_word f (Some listless) w r k ds c fs = listless_word k ds c
 
--- the same of the node of that number, unless it is erased
+-- the same of the node of that number
 abbrev pub node_word : Known → ℕ → Way → Rule → Kind → Docs → OneField → AllFields → List Entry
-node_word f i w r k ds c fs =
-    if is_gone r k ds then gone_word w else told_word f (told_of f.told i) w r k ds c fs
+node_word f i w r k ds c fs = told_word f (told_of f.told i) w r k ds c fs
 
 -- what the elements of a list do, in order: read so, in turn, or the last alone
 abbrev pub list_word : Way → AllFields → AllFields → AllFields → List Entry

@@ -1,8 +1,8 @@
 //! The effect word of a block of an enum, of its members and of the bare names of members.
 ghost use Rattle.std.specs.Prelude.{◌≡◌, ◌∷◌, [], ◌++◌, OnOk};
 ghost use Rattle.oxt_facts.specs.Told.{block_view, member_view, value_view};
-ghost use Rattle.oxt_item.specs.Entry.{atom_doc, detailed, entries, lone, spelled};
-ghost use Rattle.oxt_symbol.specs.Constant.{constant_view};
+ghost use Rattle.oxt_facts.specs.Entry.{atom_doc, detailed, entries, lone, spelled};
+ghost use Rattle.oxt_names.specs.Constant.{constant_view};
 ghost use Rattle.oxt_tree.specs.Doc.{flag, text};
 ghost use Rattle.oxt_tree.specs.Names.{name_bytes};
 ghost use Rattle.oxt_tree.specs.View.{docs_in};
@@ -13,11 +13,11 @@ ghost use Rattle.oxt_word.specs.Word.{each_field};
 use crate::way::Way;
 use crate::word::put_field;
 use oxt_facts::facts::Facts;
+use oxt_facts::item::{Atom, Binding, Item, ItemKind};
 use oxt_facts::told::{MemberValue, ToldBlock, ToldMember};
-use oxt_item::item::{Atom, Binding, Item, ItemKind};
+use oxt_grammar::kind::Kind;
+use oxt_names::constant::ConstantValue;
 use oxt_put::put::{first_atom, put_detailed, put_lone, put_spelled, put_start};
-use oxt_symbol::constant::ConstantValue;
-use oxt_table::kind::Kind;
 use oxt_tree::ids::OutOfMemory;
 use oxt_tree::name::Name;
 use oxt_tree::tree::Node;

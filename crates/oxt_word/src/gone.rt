@@ -1,6 +1,6 @@
 //! Nodes that do nothing, since only TypeScript has them.
 ghost use Rattle.std.specs.Prelude.{◌≡◌, ◌++◌, [], OnOk, codes};
-ghost use Rattle.oxt_item.specs.Entry.{entries, lone};
+ghost use Rattle.oxt_facts.specs.Entry.{entries, lone};
 ghost use Rattle.oxt_tree.specs.Fields.{named};
 ghost use Rattle.oxt_tree.specs.Syntax.{is_mere_declaration};
 ghost use Rattle.oxt_tree.specs.View.{docs_in};
@@ -9,9 +9,9 @@ ghost use Rattle.oxt_put.specs.Details.{start};
 
 use crate::rule::Rule;
 use crate::way::Way;
-use oxt_item::item::{Binding, Item, ItemKind};
+use oxt_facts::item::{Binding, Item, ItemKind};
+use oxt_grammar::kind::Kind;
 use oxt_put::put::{put_lone, put_start};
-use oxt_table::kind::Kind;
 use oxt_tree::ids::OutOfMemory;
 use oxt_tree::tree::Node;
 use std::alloc::Global;

@@ -1,6 +1,6 @@
 //! The rules by which nodes are read.
 
-use oxt_item::item::{Binding, ItemKind};
+use oxt_facts::item::{Binding, ItemKind};
 
 /// How nodes of a kind are read.
 #[derive(Clone, Copy, Debug, PartialEq, Eq)]

@@ -3,8 +3,8 @@ ghost use Rattle.std.specs.Prelude.{◌≡◌};
 ghost use Rattle.oxt_word.specs.RuleOf.{rule_of};
 
 use crate::rule::Rule;
-use oxt_item::item::{Binding, ItemKind};
-use oxt_table::kind::Kind;
+use oxt_facts::item::{Binding, ItemKind};
+use oxt_grammar::kind::Kind;
 
 /// The rule by which nodes of the kind are read.
 #[tactic(auto, unfolding(crate::specs::RuleOf::rule_of))]

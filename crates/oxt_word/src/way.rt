@@ -1,6 +1,6 @@
 //! The ways in which a rule reads what stands in it.
 
-use oxt_item::item::Binding;
+use oxt_facts::item::Binding;
 
 /// How a part of the tree is read.
 #[derive(Clone, Copy, Debug, PartialEq, Eq)]

@@ -1,16 +1,15 @@
 //! The effect word of a tree.
 ghost use Rattle.std.specs.Prelude.{◌≡◌, [], ◌++◌, IfOk, OnOk, codes, if◌then◌else◌, map};
-ghost use Rattle.oxt_table.specs.Field.{row_view};
+ghost use Rattle.oxt_grammar.specs.Field.{row_view};
 ghost use Rattle.oxt_tree.specs.View.{docs_in, node_doc, part_doc};
-ghost use Rattle.oxt_item.specs.Entry.{entries, lone};
+ghost use Rattle.oxt_facts.specs.Entry.{entries};
 ghost use Rattle.oxt_put.specs.Details.{is_read};
 ghost use Rattle.oxt_put.specs.Leaves.{dropped};
 ghost use Rattle.oxt_word.specs.Node.{opened};
 ghost use Rattle.oxt_word.specs.RuleOf.{rule_of};
 ghost use Rattle.oxt_word.specs.Ways.{bound_word, entered_word, exported_word, target_word};
-ghost use Rattle.oxt_word.specs.Whole.{arrow_word, assignment_word, body_word, call_word, declarator_word, export_list_word, function_word, get_word, if_word, import_word, logical_word, object_word, sequence_word, variables_word, whole_word};
-ghost use Rattle.oxt_word.specs.Word.{all_fields, each_field, each_said, fields_said, last_said, list_word, node_word, said, told_word, turns_said, way_word, word};
-ghost use Rattle.oxt_facts.specs.Told.{told_of};
+ghost use Rattle.oxt_word.specs.Whole.{arrow_word, assignment_word, body_word, call_word, declarator_word, export_list_word, function_word, get_word, if_word, import_word, listless_word, logical_word, object_word, sequence_word, variables_word, whole_word};
+ghost use Rattle.oxt_word.specs.Word.{all_fields, each_field, each_said, fields_said, last_said, list_word, node_word, own_word, said, turns_said, way_word, word};
 
 use crate::class::{
     put_class, put_class_expression, put_constructor, put_instance_fields, put_key_text, put_keyed,
@@ -23,20 +22,20 @@ use crate::rule_of::rule_of;
 use crate::way::Way;
 use oxt_facts::facts::Facts;
 use oxt_facts::inside::inside;
+use oxt_facts::item::{Atom, Binding, Item, ItemKind};
+use oxt_facts::tags::number_tags;
 use oxt_facts::told::Told;
 use oxt_forms::base::is_found_made_on;
 use oxt_forms::forms::{
     binding_of, is_called, is_found, is_found_made, is_long, is_put, lists_nothing,
 };
 use oxt_forms::made::{is_keep, is_silent};
-use oxt_item::item::{Atom, Binding, Item, ItemKind};
-use oxt_item::tags::number_tags;
+use oxt_grammar::holds::Row;
+use oxt_grammar::kind::Kind;
 use oxt_put::put::{
     is_read, put_base, put_bind, put_dropped, put_first, put_hash, put_in, put_lone, put_name,
     put_number, put_open, put_private, put_spelled, put_start, target_atom,
 };
-use oxt_table::holds::Row;
-use oxt_table::kind::Kind;
 use oxt_tree::fields::place_of;
 use oxt_tree::ids::OutOfMemory;
 use oxt_tree::tree::{Node, Part};
@@ -69,39 +68,36 @@ fn put_node(facts: &Facts, node: &Node, way: Way, out: &mut Vec<Item>) -> Result
     }
 }
 
-/// Puts what the node does, read that way, where that is known inside it.
+/// Puts what the node does, read that way, where that is known inside it: by what is told of it, or else by its own
+/// rule.
 #[cycle(word)]
 fn put_known(facts: &Facts, node: &Node, way: Way, out: &mut Vec<Item>) -> Result<(), OutOfMemory>
     ensures { OnOk result (entries out.new.items
         ≡ entries out.old.items ++ node_word facts.now node.now.id.0 way (rule_of node.now.kind) node.now.kind
         (docs_in node.now.parts.items) (each_field facts.now node.now) (all_fields facts.now node.now)) }
 {
+    match facts.told_of(node.id) {
+        None => put_own(facts, way, node, out),
+        Some(Told::Block(block)) => put_enum(facts, block, is_exported(way), node, out),
+        Some(Told::Member(member)) => put_member(facts, member, node, out),
+        Some(Told::Bare(owner)) => put_bare(facts.memory(), owner, way, node, out),
+        Some(Told::Gone) => put_gone(facts.memory(), way, out),
+        Some(Told::Listless) => put_listless(facts, node, out),
+    }
+}
+
+/// Puts what the node does by its own rule, read that way; nothing if it is erased.
+#[cycle(word)]
+fn put_own(facts: &Facts, way: Way, node: &Node, out: &mut Vec<Item>) -> Result<(), OutOfMemory>
+    ensures { OnOk result (entries out.new.items
+        ≡ entries out.old.items ++ own_word facts.now way (rule_of node.now.kind) node.now.kind
+        (docs_in node.now.parts.items) (each_field facts.now node.now) (all_fields facts.now node.now)) }
+{
     let rule = rule_of(node.kind);
     if is_gone(rule, node) {
         put_gone(facts.memory(), way, out)
     } else {
-        put_told(facts, way, rule, node, out)
-    }
-}
-
-/// Puts what the node, which is not erased, does by what is told of it, or else by its rule, read that way.
-#[cycle(word)]
-fn put_told(
-    facts: &Facts,
-    way: Way,
-    rule: Rule,
-    node: &Node,
-    out: &mut Vec<Item>,
-) -> Result<(), OutOfMemory>
-    ensures { OnOk result (entries out.new.items
-        ≡ entries out.old.items ++ told_word facts.now (told_of facts.now.told node.now.id.0) way rule node.now.kind
-        (docs_in node.now.parts.items) (each_field facts.now node.now) (all_fields facts.now node.now)) }
-{
-    match facts.told_of(node.id) {
-        None => put_way(facts, way, rule, node, out),
-        Some(Told::Block(block)) => put_enum(facts, block, is_exported(way), node, out),
-        Some(Told::Member(member)) => put_member(facts, member, node, out),
-        Some(Told::Bare(owner)) => put_bare(facts.memory(), owner, way, node, out),
+        put_way(facts, way, rule, node, out)
     }
 }
 
@@ -612,18 +608,17 @@ fn put_import(facts: &Facts, node: &Node, out: &mut Vec<Item>) -> Result<(), Out
         (each_field facts.now node.now) (all_fields facts.now node.now)) }
 {
     if lists_nothing(node, "specifiers") {
-        return put_bare_import(facts, node, out);
+        return put_listless(facts, node, out);
     }
     put_plain(facts, node, Way::Whole, out)
 }
 
-/// Puts an import of an empty list, as one without a list.
+/// Puts an import as one without a list.
 #[cycle(word)]
-fn put_bare_import(facts: &Facts, node: &Node, out: &mut Vec<Item>) -> Result<(), OutOfMemory>
+fn put_listless(facts: &Facts, node: &Node, out: &mut Vec<Item>) -> Result<(), OutOfMemory>
     ensures { OnOk result (entries out.new.items
-        ≡ entries out.old.items ++ opened node.now.kind (docs_in node.now.parts.items)
-        (lone ItemKind.Nil ++ (each_field facts.now node.now (codes "source") Way.Whole
-        ++ each_field facts.now node.now (codes "withClause") Way.Whole))) }
+        ≡ entries out.old.items ++ listless_word node.now.kind (docs_in node.now.parts.items)
+        (each_field facts.now node.now)) }
 {
     put_open(facts.memory(), node, out)?;
     put_lone(facts.memory(), ItemKind::Nil, out)?;

@@ -1,6 +1,6 @@
 use Rattle.std.proofs.Common.{◌≡◌, ◌∙◌, ◌++◌, refl, sym, ap, subst, arith, OnOk}
 use Rattle.oxt_word.proofs.Loops.{field_none, field_past, field_some, no_more_rows, one_turn}
-use Rattle.oxt_item.specs.Entry.{entries}
+use Rattle.oxt_facts.specs.Entry.{entries}
 use Rattle.oxt_tree.specs.View.{docs_in}
 use Rattle.oxt_facts.specs.Inside.{known_or}
 use Rattle.oxt_word.specs.RuleOf.{rule_of}

@@ -3,7 +3,7 @@ use Rattle.std.proofs.Common.{◌≡◌, ◌++◌}
 use Rattle.oxt_tree.specs.View.{docs_in}
 use Rattle.std.proofs.Common.{drop}
 use Rattle.oxt_word.proofs.Loops.{fields_from}
-use Rattle.oxt_item.specs.Entry.{entries}
+use Rattle.oxt_facts.specs.Entry.{entries}
 use Rattle.oxt_word.specs.Word.{each_said, turns_said}
 use Rattle.oxt_word.proofs.+word.Given as goal
 

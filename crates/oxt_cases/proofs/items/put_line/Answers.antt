@@ -1,5 +1,5 @@
 use Rattle.std.proofs.Common.{◌≡◌, ◌∙◌, ◌++◌, ap}
-use Rattle.oxt_item.specs.Entry.{entry_of}
+use Rattle.oxt_facts.specs.Entry.{entry_of}
 use Rattle.oxt_cases.proofs.Shows.{written}
 use Rattle.oxt_cases.proofs.items.put_line.Goals as goal
 

@@ -2,7 +2,7 @@ use Rattle.std.proofs.Common.{◌≡◌, ◌∙◌, sym, ap, subst}
 use Rattle.std.specs.Io.KnownBytes.{Appends}
 use Rattle.oxt_json.specs.Spelling.{reading}
 use Rattle.oxt_tree.specs.View.{node_doc}
-use Rattle.oxt_item.specs.Entry.{entries}
+use Rattle.oxt_facts.specs.Entry.{entries}
 use Rattle.oxt_word.specs.Word.{word}
 use Rattle.oxt_cases.specs.Lines.{lines}
 use Rattle.oxt_cases.specs.Shown.{Shown}

@@ -2,7 +2,7 @@
 use Rattle.std.proofs.Common.{◌≡◌, ◌∙◌, sym, ap, subst, IfOk, option_map}
 use Rattle.oxt_constant.proofs.Found.{field_none, field_past, field_some}
 use Rattle.oxt_constant.specs.Evaluated.{Seen, constant_views}
-use Rattle.oxt_symbol.specs.Constant.{constant_view}
+use Rattle.oxt_names.specs.Constant.{constant_view}
 use Rattle.oxt_constant.proofs.evaluate.+constant.Goals as goal
 
 pub of_field-returns-in-Some-get : goal.of_field-returns-in-Some-get

@@ -1,7 +1,7 @@
 -- The bindings so far were taken, and those of what is left come after them.
 use Rattle.std.proofs.Common.{◌≡◌, drop, filter}
 use Rattle.oxt_tree.specs.View.{docs_in}
-use Rattle.oxt_uid.specs.Made.{all_added}
+use Rattle.oxt_names.specs.Made.{all_added}
 use Rattle.oxt_facts.specs.Facts.{bindings_of_each, is_new}
 use Rattle.oxt_facts.proofs.facts.+bindings.Given as goal
 

@@ -1,6 +1,6 @@
 use Rattle.oxt_hygiene.proofs.Moved.{some_moved}
 use Rattle.oxt_hygiene.specs.Left.{left_owners}
-use Rattle.oxt_scope.specs.Owners.{owners_of}
+use Rattle.oxt_scopes.specs.Owners.{owners_of}
 use Rattle.oxt_hygiene.proofs.laws.first_moved_is_first.Goals as goal
 
 pub returns : goal.returns

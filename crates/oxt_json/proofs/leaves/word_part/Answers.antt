@@ -1,7 +1,7 @@
 -- The word that was found is spelled as the text.
 use Rattle.std.proofs.Common.{◌≡◌, sym, ◌∙◌, rules, Some}
-use Rattle.oxt_table.specs.Places.{words_of}
-use Rattle.oxt_table.specs.Words.{text_of}
+use Rattle.oxt_grammar.specs.Places.{words_of}
+use Rattle.oxt_grammar.specs.Words.{text_of}
 use Rattle.oxt_tree.specs.Doc.{text}
 use Rattle.oxt_tree.specs.View.{part_doc}
 use Rattle.oxt_tree.specs.declared.tree.Part.{the_lemmas}

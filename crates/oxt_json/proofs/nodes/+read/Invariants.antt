@@ -1,7 +1,7 @@
 -- Both loops keep: the whole reading is what was read so far, in front of the reading of what is left.
 use Rattle.std.proofs.Common.{◌≡◌, map, drop}
 use Rattle.serde_json.specs.View.{items_view, members_view}
-use Rattle.oxt_table.specs.Field.{row_view}
+use Rattle.oxt_grammar.specs.Field.{row_view}
 use Rattle.oxt_tree.specs.View.{part_doc}
 use Rattle.oxt_json.specs.Reading.{each_as, member_as, fields_as}
 use Rattle.oxt_json.proofs.Loops.{after}

@@ -1,6 +1,6 @@
 use Rattle.std.proofs.Common.{◌≡◌, ◌++◌, map}
 use Rattle.oxt_put.proofs.Details.{details_from}
-use Rattle.oxt_item.specs.Entry.{atom_doc}
+use Rattle.oxt_facts.specs.Entry.{atom_doc}
 use Rattle.oxt_put.proofs.put.details_of.Given as goal
 
 abbrev pub invariant-loop-i : goal.invariant-loop-i

@@ -1,7 +1,7 @@
 -- The spellings are those of the tree.
 use Rattle.std.proofs.Common.{◌≡◌, OnOk, subst}
 use Rattle.oxt_resolve.specs.Resolved.{all_used}
-use Rattle.oxt_scope.specs.OwnedViews.{owned_views}
+use Rattle.oxt_scopes.specs.OwnedViews.{owned_views}
 use Rattle.oxt_resolve.proofs.resolve.refer_to.Goals as goal
 
 pub returns : goal.returns

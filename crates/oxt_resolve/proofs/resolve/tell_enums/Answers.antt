@@ -3,7 +3,7 @@ use Rattle.std.proofs.Common.{◌≡◌, OnOk, subst}
 use Rattle.oxt_enums.specs.Blocks.{blocks_in}
 use Rattle.oxt_resolve.proofs.Alike.{same_values}
 use Rattle.oxt_resolve.specs.Resolved.{all_enums}
-use Rattle.oxt_scope.specs.OwnedViews.{owned_views}
+use Rattle.oxt_scopes.specs.OwnedViews.{owned_views}
 use Rattle.oxt_scopes.specs.Views.{opened_views}
 use Rattle.oxt_tree.specs.View.{node_doc}
 use Rattle.oxt_resolve.proofs.resolve.tell_enums.Goals as goal

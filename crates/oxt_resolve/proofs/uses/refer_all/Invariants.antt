@@ -2,7 +2,7 @@
 use Rattle.std.proofs.Common.{◌≡◌, drop}
 use Rattle.oxt_resolve.specs.Resolved.{all_used}
 use Rattle.oxt_resolve.specs.Spellings.{name_in}
-use Rattle.oxt_scope.specs.OwnedViews.{owned_views}
+use Rattle.oxt_scopes.specs.OwnedViews.{owned_views}
 use Rattle.oxt_resolve.proofs.uses.refer_all.Given as goal
 
 abbrev pub invariant-loop-owner : goal.invariant-loop-owner

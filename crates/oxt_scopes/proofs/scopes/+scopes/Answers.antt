@@ -4,7 +4,7 @@ use Rattle.oxt_declares.specs.Declares.{each_found}
 use Rattle.oxt_scopes.proofs.Appends.{three_more}
 use Rattle.oxt_scopes.proofs.Numbers.{numbers_closed, numbers_opened}
 use Rattle.oxt_scopes.proofs.ScopeLoops.{fields_as}
-use Rattle.oxt_scopes.specs.Scopes.{innermost, opened_scope}
+use Rattle.oxt_scopes.specs.Nestings.{innermost, opened_scope}
 use Rattle.oxt_scopes.specs.Views.{numbers, opened_views}
 use Rattle.oxt_scopes.proofs.scopes.+scopes.Goals as goal
 

@@ -1,8 +1,8 @@
 -- The scopes so far stand in front of those of what is left, and the ones around are as they were.
 use Rattle.std.proofs.Common.{◌≡◌, ◌++◌, drop, map}
-use Rattle.oxt_table.specs.Field.{row_view}
+use Rattle.oxt_grammar.specs.Field.{row_view}
 use Rattle.oxt_tree.specs.View.{docs_in}
-use Rattle.oxt_scopes.specs.Scopes.{each_scopes, field_scopes}
+use Rattle.oxt_scopes.specs.Nestings.{each_scopes, field_scopes}
 use Rattle.oxt_scopes.specs.Views.{numbers, opened_views}
 use Rattle.oxt_scopes.proofs.scopes.+scopes.Given as goal
 

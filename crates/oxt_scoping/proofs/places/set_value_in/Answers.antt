@@ -1,5 +1,5 @@
 use Rattle.std.proofs.Common.{Some}
-use Rattle.oxt_symbol.specs.Constant.{constant_view}
+use Rattle.oxt_names.specs.Constant.{constant_view}
 use Rattle.oxt_scoping.specs.Entries.{SymbolData}
 use Rattle.oxt_scoping.proofs.Changes.{set_changed}
 use Rattle.oxt_scoping.proofs.places.set_value_in.Goals as goal

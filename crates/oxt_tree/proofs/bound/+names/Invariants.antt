@@ -1,6 +1,6 @@
 -- The names so far stand in front of those of what is left.
 use Rattle.std.proofs.Common.{◌≡◌, ◌++◌, map, drop}
-use Rattle.oxt_table.specs.Field.{row_view}
+use Rattle.oxt_grammar.specs.Field.{row_view}
 use Rattle.oxt_tree.specs.Bound.{bound_views, names_of_each, names_of_fields}
 use Rattle.oxt_tree.specs.View.{docs_in}
 use Rattle.oxt_tree.proofs.bound.+names.Given as goal

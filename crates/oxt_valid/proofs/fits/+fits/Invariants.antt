@@ -1,6 +1,6 @@
 -- What is left to test decides.
 use Rattle.std.proofs.Common.{◌≡◌, map, drop}
-use Rattle.oxt_table.specs.Field.{row_view}
+use Rattle.oxt_grammar.specs.Field.{row_view}
 use Rattle.oxt_valid.specs.Valid.{fields_fit, all_fit}
 use Rattle.oxt_tree.specs.View.{docs_in}
 use Rattle.oxt_valid.proofs.fits.+fits.Given as goal

@@ -1,6 +1,6 @@
 -- What is left to test decides.
 use Rattle.std.proofs.Common.{◌≡◌, map, drop}
-use Rattle.oxt_table.specs.Field.{row_view}
+use Rattle.oxt_grammar.specs.Field.{row_view}
 use Rattle.oxt_tree.specs.View.{docs_in}
 use Rattle.oxt_valid.specs.Misfit.{misfit_in_each, misfit_in_fields}
 use Rattle.oxt_valid.proofs.misfit.+misfit.Given as goal

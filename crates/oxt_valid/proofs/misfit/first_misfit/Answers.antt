@@ -1,8 +1,8 @@
 -- No place is found exactly where the tree fits.
 use Rattle.std.proofs.Common.{string_bytes}
-use Rattle.oxt_table.specs.declared.category.Category.TheVariants as category
-use Rattle.oxt_table.specs.declared.context.Setting.TheVariants.{Elsewhere}
-use Rattle.oxt_table.specs.declared.holds.Holds.TheVariants as holds
+use Rattle.oxt_grammar.specs.declared.category.Category.TheVariants as category
+use Rattle.oxt_grammar.specs.declared.context.Setting.TheVariants.{Elsewhere}
+use Rattle.oxt_grammar.specs.declared.holds.Holds.TheVariants as holds
 use Rattle.oxt_tree.specs.View.{node_doc}
 use Rattle.oxt_valid.proofs.Decisions.{some_misfit, no_misfit}
 use Rattle.oxt_valid.proofs.misfit.first_misfit.Goals as goal

@@ -1,6 +1,6 @@
 -- What is left to test decides.
 use Rattle.std.proofs.Common.{◌≡◌, map, drop}
-use Rattle.oxt_table.specs.Field.{row_view}
+use Rattle.oxt_grammar.specs.Field.{row_view}
 use Rattle.oxt_valid.specs.Plain.{fields_plain}
 use Rattle.oxt_tree.specs.View.{docs_in}
 use Rattle.oxt_valid.proofs.plain.fields_plain.Given as goal

@@ -1,4 +1,4 @@
-use Rattle.std.proofs.Common.{◌≡◌, ◌∙◌, ◌++◌, ◌∷◌, ap, sym, drop, take, option_map, option_to_list}
+use Rattle.std.proofs.Common.{◌∙◌, ◌++◌, ◌∷◌, ap, sym, drop, take, option_map, option_to_list}
 use Rattle.oxt_stores.specs.Insertion.{docs}
 use Rattle.oxt_tree.specs.View.{node_doc}
 use Rattle.oxt_walk.proofs.Imports.{inserted}

@@ -1,32 +1,28 @@
--- The context is level, what is seen of the parts is as it was, and those from the place on are left.
+-- The context is level, what is watched is untouched, and the parts from the place on are left.
 use Rattle.std.proofs.Common.{◌≡◌, ◌+◌, ◌*◌, drop, length, map}
-use Rattle.oxt_table.specs.Field.{row_view}
+use Rattle.oxt_grammar.specs.Field.{row_view}
 use Rattle.oxt_traverse.proofs.Logs.{Remains}
-use Rattle.oxt_traverse.specs.Level.{IsAside, IsLevel}
-use Rattle.oxt_traverse.specs.Reading.{readings}
-use Rattle.oxt_tree.specs.View.{docs_in}
+use Rattle.oxt_traverse.specs.Level.{IsLevel, IsUntouched}
+use Rattle.oxt_tree.specs.Doc.{list}
+use Rattle.oxt_tree.specs.View.{docs_in, node_doc}
 use Rattle.oxt_walk.specs.Visited.{visits_each, visits_fields}
+use Rattle.oxt_walk.specs.Watched.{IsWatched}
 use Rattle.oxt_walk.proofs.walk.+walk.Given as goal
 
 abbrev pub invariant-walk_fields-loop-i : goal.invariant-walk_fields-loop-i
 invariant-walk_fields-loop-i g l = record {
   level : IsLevel l.initial.ctx l.ctx;
-  aside : IsAside g.T.Traverse.quiet l.initial.ctx l.ctx;
-  kind : l.node.kind ≡ l.initial.node.kind;
-  id : l.node.id ≡ l.initial.node.id;
-  span : l.node.span ≡ l.initial.node.span;
+  untouched : IsUntouched (IsWatched g.T.Traverse.watches l.initial.ctx) (node_doc l.initial.node) (node_doc l.node) l.initial.ctx l.ctx;
   len : length l.node.parts.items ≡ length l.initial.node.parts.items;
-  read : readings g.T.Traverse.read (docs_in l.node.parts.items) ≡ readings g.T.Traverse.read (docs_in l.initial.node.parts.items);
-  logged : Remains g.T.Traverse.watches g.T.Traverse.trace (g.T.Traverse.log l.initial.pass) (g.T.Traverse.log l.pass) (visits_fields (docs_in l.initial.node.parts.items) (map row_view l.rows) l.levels) (visits_fields (docs_in (drop l.i l.node.parts.items)) (map row_view (drop l.i l.rows)) l.levels);
+  logged : Remains (IsWatched g.T.Traverse.watches l.initial.ctx) g.T.Traverse.trace (g.T.Traverse.log l.initial.pass) (g.T.Traverse.log l.pass) (visits_fields (docs_in l.initial.node.parts.items) (map row_view l.rows) l.levels) (visits_fields (docs_in (drop l.i l.node.parts.items)) (map row_view (drop l.i l.rows)) l.levels);
 }
 
 abbrev pub invariant-walk_elements-loop-i : goal.invariant-walk_elements-loop-i
 invariant-walk_elements-loop-i g l = record {
   level : IsLevel l.initial.ctx l.ctx;
-  aside : IsAside g.T.Traverse.quiet l.initial.ctx l.ctx;
+  untouched : IsUntouched (IsWatched g.T.Traverse.watches l.initial.ctx) (list (docs_in l.initial.parts.items)) (list (docs_in l.parts.items)) l.initial.ctx l.ctx;
   len : length l.parts.items ≡ length l.initial.parts.items;
-  read : readings g.T.Traverse.read (docs_in l.parts.items) ≡ readings g.T.Traverse.read (docs_in l.initial.parts.items);
-  logged : Remains g.T.Traverse.watches g.T.Traverse.trace (g.T.Traverse.log l.initial.pass) (g.T.Traverse.log l.pass) (visits_each (docs_in l.initial.parts.items) l.place l.levels) (visits_each (docs_in (drop l.i l.parts.items)) l.place l.levels);
+  logged : Remains (IsWatched g.T.Traverse.watches l.initial.ctx) g.T.Traverse.trace (g.T.Traverse.log l.initial.pass) (g.T.Traverse.log l.pass) (visits_each (docs_in l.initial.parts.items) l.place l.levels) (visits_each (docs_in (drop l.i l.parts.items)) l.place l.levels);
 }
 
 abbrev pub decreases-walk_node : goal.decreases-walk_node

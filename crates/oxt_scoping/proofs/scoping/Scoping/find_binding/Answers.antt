@@ -1,6 +1,6 @@
 -- What is found is a symbol.
 use Rattle.std.proofs.Common.{◌<◌, ◌≡◌, length, subst, sym, Some, Option, IfSome}
-use Rattle.oxt_symbol.specs.declared.ids.SymbolId.{SymbolId}
+use Rattle.oxt_names.specs.declared.ids.SymbolId.{SymbolId}
 use Rattle.oxt_scoping.specs.Scoped.{Scoped, found_within}
 use Rattle.oxt_scoping.proofs.Sound.{found_live}
 use Rattle.oxt_scoping.proofs.scoping.Scoping.find_binding.Goals as goal

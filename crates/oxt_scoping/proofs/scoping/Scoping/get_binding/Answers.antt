@@ -1,7 +1,7 @@
 -- What a scope binds is a symbol.
 use Rattle.std.proofs.Common.{◌<◌, ◌≡◌, length, subst, Some, IfSome}
 use Rattle.std.specs.Prelude.{slice_get}
-use Rattle.oxt_symbol.specs.declared.ids.SymbolId.{SymbolId}
+use Rattle.oxt_names.specs.declared.ids.SymbolId.{SymbolId}
 use Rattle.oxt_scoping.specs.Scoped.{Scoped}
 use Rattle.oxt_scoping.proofs.Sound.{binding_live}
 use Rattle.oxt_scoping.proofs.scoping.Scoping.get_binding.Goals as goal

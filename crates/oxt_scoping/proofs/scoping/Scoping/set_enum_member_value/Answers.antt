@@ -1,4 +1,4 @@
-use Rattle.oxt_symbol.specs.Constant.{constant_view}
+use Rattle.oxt_names.specs.Constant.{constant_view}
 use Rattle.oxt_scoping.proofs.Sound.{sound_value, table_of}
 use Rattle.oxt_scoping.proofs.scoping.Scoping.set_enum_member_value.Goals as goal
 

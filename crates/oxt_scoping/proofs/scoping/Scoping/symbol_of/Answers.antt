@@ -1,6 +1,6 @@
 -- What a table has is the number of a symbol.
 use Rattle.std.proofs.Common.{◌<◌, length, nat_eq, subst, sym, Option, IfSome, ◌∙◌}
-use Rattle.oxt_symbol.specs.declared.ids.SymbolId.{SymbolId}
+use Rattle.oxt_names.specs.declared.ids.SymbolId.{SymbolId}
 use Rattle.oxt_scoping.specs.Scoped.{Scoped}
 use Rattle.oxt_scoping.proofs.Sound.{each_lookup}
 use Rattle.oxt_scoping.proofs.scoping.Scoping.symbol_of.Goals as goal

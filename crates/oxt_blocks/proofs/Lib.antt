@@ -1,4 +1,0 @@
-pub mod Clashes
-pub mod Names
-pub mod Symbols
-pub mod Walks

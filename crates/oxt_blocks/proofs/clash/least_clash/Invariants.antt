@@ -1,9 +1,0 @@
--- What is known so far and the blocks that are left decide.
-use Rattle.std.proofs.Common.{◌≡◌, drop, option_map}
-use Rattle.oxt_blocks.specs.Clash.{least_clash}
-use Rattle.oxt_blocks.specs.Places.{places_in}
-use Rattle.oxt_blocks.proofs.Clashes.{least_from}
-use Rattle.oxt_blocks.proofs.clash.least_clash.Given as goal
-
-abbrev pub invariant-loop-block : goal.invariant-loop-block
-invariant-loop-block l = least_clash l.scoping (places_in l.places) l.blocks ≡ least_from l.scoping (places_in l.places) (option_map (λ node. node.0) l.least) (drop l.block-index l.blocks)

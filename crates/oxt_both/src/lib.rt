@@ -1,4 +1,0 @@
-//! Two passes in one walk.
-#![tactic(auto)]
-
-pub mod both;

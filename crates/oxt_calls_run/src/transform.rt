@@ -1,0 +1,71 @@
+//! A run over a source and sinks that never fail, and the settings of an output beside those of its source.
+
+use oxt_lines::lines::Lines;
+use oxt_lines::stopped::Stopped;
+use oxt_lines::table::Table;
+use oxt_options::plan::Plan;
+use oxt_resolve::resolve::resolve;
+use oxt_transform::certificate::find_mismatch;
+use oxt_transform::expected::Expected;
+use oxt_transform::{Mismatch, SureSink, SureSource, run};
+use oxt_tree::tree::Node;
+use std::alloc::Global;
+
+/// The run, and the settings.
+pub fn print_transform(alloc: Global, table: &Table, lines: &mut Lines) -> Result<(), Stopped> {
+    sure(alloc, table, lines)?;
+    settings(alloc, table, lines)
+}
+
+fn sure(alloc: Global, table: &Table, lines: &mut Lines) -> Result<(), Stopped> {
+    let text = table.text(alloc, "const x: number = 0;")?;
+    let mut source = SureSource::new(alloc, text.as_slice())?;
+    let status = status_of(alloc, &mut source);
+    lines.numbers(
+        "a run over a sure source and sure sinks: its status",
+        &[u64::from(status)],
+    )
+}
+
+/// The status of a run over the source.
+fn status_of(alloc: Global, source: &mut SureSource) -> u8 {
+    let mut out = SureSink::new();
+    let mut err = SureSink::new();
+    run(alloc, &[], source, &mut out, &mut err).status()
+}
+
+fn settings(alloc: Global, table: &Table, lines: &mut Lines) -> Result<(), Stopped> {
+    let program = table.tree(alloc, "nothing")?;
+    let mut expected = expected_of(alloc, &program.root)?;
+    print_mismatch(
+        alloc,
+        "a module that stays TypeScript, beside a module",
+        &expected,
+        &program.root,
+        lines,
+    )?;
+    expected.settings.script = true;
+    print_mismatch(alloc, "beside a script", &expected, &program.root, lines)
+}
+
+/// What is expected of the output of a source, of which no specifier is kept.
+fn expected_of(alloc: Global, root: &Node) -> Result<Expected, Stopped> {
+    let scoping = resolve(alloc, root)?;
+    let plan = Plan::empty(alloc);
+    Ok(Expected::of(alloc, root, &scoping, &plan, false)?)
+}
+
+/// A line with the place of the setting that is wrong.
+fn print_mismatch(
+    alloc: Global,
+    label: &str,
+    expected: &Expected,
+    root: &Node,
+    lines: &mut Lines,
+) -> Result<(), Stopped> {
+    match find_mismatch(alloc, expected, root)? {
+        Some(Mismatch::Setting { place }) => lines.text(label, place.as_str()),
+        Some(_) => lines.text(label, "another mismatch"),
+        None => lines.text(label, "none"),
+    }
+}

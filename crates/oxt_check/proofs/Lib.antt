@@ -1,0 +1,4 @@
+pub mod Collected
+pub mod Decisions
+pub mod Kept
+pub mod Remainders

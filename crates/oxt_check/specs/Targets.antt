@@ -1,0 +1,80 @@
+-- Wrappers that stay in the output: those where something is assigned, around neither an identifier nor a member.
+use Rattle.std.specs.Prelude.{ℕ, List, [], ◌∷◌, ◌++◌, map, Bool, true, false, nat_eq, not, ◌&&◌, if◌then◌else◌}
+use Rattle.std.specs.List.{list_any}
+use Rattle.oxt_grammar.specs.Field.{Field}
+use Rattle.oxt_grammar.specs.Rows.{row_of}
+use Rattle.oxt_grammar.specs.declared.category.Category.{Category}
+use Rattle.oxt_grammar.specs.declared.category.Category.TheVariants as category
+use Rattle.oxt_grammar.specs.declared.holds.Holds.{Holds}
+use Rattle.oxt_grammar.specs.declared.holds.Holds.TheVariants as holds
+use Rattle.oxt_tree.specs.Doc.{Doc, nil, flag, number, text, list, node, Docs, no_docs, doc}
+use Rattle.oxt_tree.specs.Fields.{is_in}
+use Rattle.oxt_tree.specs.Inner.{inner_expression}
+use Rattle.oxt_tree.specs.Syntax.{is_definition_file}
+use Rattle.oxt_tree.specs.declared.ids.NodeId.{NodeId}
+use Rattle.oxt_unbuilt.specs.Dropped.{is_dropped_by}
+
+-- the numbers of the nodes
+abbrev pub numbers_in : List NodeId → List ℕ
+numbers_in ns = map (λ n. n.0) ns
+
+-- the number is one of the list
+abbrev pub is_listed : List ℕ → ℕ → Bool
+is_listed ns n = list_any (nat_eq n) ns
+
+-- something is assigned there
+abbrev pub is_target : Category → Bool
+is_target category.SimpleAssignmentTarget = true
+is_target category.AssignmentTarget = true
+is_target category.AssignmentTargetMaybeDefault = true
+is_target category.ForStatementLeft = true
+is_target c = false
+
+-- something is assigned to what the field holds, or to each element of its list
+abbrev pub holds_target : Holds → Bool
+holds_target (holds.Node c) = is_target c
+holds_target (holds.NodeOrNull c) = is_target c
+holds_target (holds.List c) = is_target c
+holds_target (holds.ListOfNullable c) = is_target c
+holds_target h = false
+
+-- a wrapper that cannot be opened where something is assigned: what is inside it, through wrappers and
+-- parentheses, is neither an identifier nor a member
+abbrev pub is_closed_wrapper : Doc → Bool
+is_closed_wrapper d = is_in category.Wrapper d && not (is_in category.SimpleAssignmentTarget (inner_expression d))
+
+-- the document is such a wrapper where something is assigned, by what the field holds in which it stands or in
+-- whose list
+abbrev pub is_wrapped_target : Holds → Doc → Bool
+is_wrapped_target h d = holds_target h && is_closed_wrapper d
+
+-- its number, where it is
+abbrev pub target_at : Holds → Doc → ℕ → List ℕ
+target_at h d i = if is_wrapped_target h d then i ∷ [] else []
+
+-- The numbers of such wrappers in the document where a field holds `h`, outside erased code: that of a node stands
+-- before those of the nodes in it.
+abbrev mutual
+  pub targets_in : Doc → Holds → List ℕ
+  targets_in nil h = []
+  targets_in (flag b) h = []
+  targets_in (number n) h = []
+  targets_in (text t) h = []
+  targets_in (list ds) h = targets_among ds h
+  targets_in (node k i b e ds) h =
+      if is_dropped_by k ds then [] else target_at h (node k i b e ds) i ++ targets_below ds (row_of k)
+
+  -- in the elements of a list
+  pub targets_among : Docs → Holds → List ℕ
+  targets_among no_docs h = []
+  targets_among (doc d ds) h = targets_in d h ++ targets_among ds h
+
+  -- in the fields of a node with these rows
+  pub targets_below : Docs → List Field → List ℕ
+  targets_below no_docs rs = []
+  targets_below (doc d ds) [] = []
+  targets_below (doc d ds) (r ∷ rs) = targets_in d r.holds ++ targets_below ds rs
+
+-- those of a whole program
+abbrev pub targets : Doc → List ℕ
+targets d = if is_definition_file d then [] else targets_in d (holds.Node category.Program)

@@ -1,0 +1,23 @@
+-- Members that are too large, one after another.
+use Rattle.std.proofs.Common.{◌≡◌, ◌∙◌, sym, ap, ℕ, ◌+◌, ◌<◌, ◌≤◌, List, drop, length, get_or, true, false, Option, Some, None, cond}
+use Rattle.std.specs.Prelude.{find, option_map}
+use Rattle.oxt_enum_checks.specs.Wide.{number_told, wide_among}
+use Rattle.oxt_enums.specs.Constants.{told_view, told_views}
+use Rattle.oxt_enums.specs.Enums.{is_too_large}
+use Rattle.oxt_enums.specs.declared.constants.MemberConstant.{MemberConstant}
+use Rattle.oxt_tree.proofs.Lists.{drop_at, drop_end}
+
+-- the first of the members of the program
+abbrev pub first_in : List MemberConstant → Option ℕ
+first_in ms = wide_among (told_views ms)
+
+pub wide_found : (ms : List MemberConstant) (i : ℕ) (m : MemberConstant) → i < length ms → m ≡ get_or ms i m → m.is_wide ≡ true → first_in ms ≡ first_in (drop i ms) → Some m.node.0 ≡ first_in ms
+wide_found ms i m within at wide so_far = sym (so_far ∙ ap first_in (drop_at ms i m within at) ∙ ap (λ b. option_map number_told (cond b (Some (told_view m)) (find is_too_large (told_views (drop (i + 1) ms))))) wide)
+
+pub wide_next : (ms : List MemberConstant) (i : ℕ) (m : MemberConstant) → i < length ms → m ≡ get_or ms i m → m.is_wide ≡ false → first_in ms ≡ first_in (drop i ms) → first_in ms ≡ first_in (drop (i + 1) ms)
+wide_next ms i m within at narrow so_far = so_far ∙ ap first_in (drop_at ms i m within at) ∙ ap (λ b. option_map number_told (cond b (Some (told_view m)) (find is_too_large (told_views (drop (i + 1) ms))))) narrow
+
+pub wide_none : (ms : List MemberConstant) (i : ℕ) → length ms ≤ i → first_in ms ≡ first_in (drop i ms) → None ≡ first_in ms
+wide_none ms i past so_far = sym (so_far ∙ ap first_in (drop_end ms i past))
+
+pub ruleset steps = (wide_found, wide_next, wide_none)

@@ -1,0 +1,16 @@
+-- Blocks of enums and namespaces before which nothing of their name emits code.
+use Rattle.std.specs.Prelude.{ℕ, List, map}
+use Rattle.oxt_enum_checks.specs.Places.{places_of}
+use Rattle.oxt_enum_checks.specs.Sought.{sought_blocks}
+use Rattle.oxt_enum_checks.specs.declared.sought.Block.{Block}
+use Rattle.oxt_enum_checks.specs.declared.sought.Sought.TheVariants as sought
+use Rattle.oxt_scoping.specs.Scoped.{Scoped}
+use Rattle.oxt_tree.specs.Doc.{Doc}
+
+-- the numbers of blocks
+abbrev pub numbers_of : List Block → List ℕ
+numbers_of bs = map (λ b. b.node.0) bs
+
+-- the blocks whose names are those of the first declarations of their symbols that emit code
+abbrev pub first_blocks : Scoped → Doc → List ℕ
+first_blocks s d = numbers_of (sought_blocks (places_of d) sought.Any s d)

@@ -1,0 +1,13 @@
+pub mod Around
+pub mod Clash
+pub mod First
+pub mod Keys
+pub mod Members
+pub mod Misnamed
+pub mod Misused
+pub mod Places
+pub mod Shadows
+pub mod Sort
+pub mod Sought
+pub mod Uses
+pub mod Wide

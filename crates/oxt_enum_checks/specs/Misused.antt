@@ -1,0 +1,87 @@
+-- Bare names of members of enums, where the value of a member cannot stand.
+use Rattle.std.specs.Prelude.{ℕ, List, Bool, false, ◌&&◌, ◌||◌, ◌==◌, if◌then◌else◌, Option, None, Some, slice_get}
+use Rattle.std.specs.Int.RustNames.{bit_and}
+use Rattle.oxt_scoping.specs.Entries.{SymbolData}
+use Rattle.oxt_scoping.specs.Scoped.{Scoped, at_node, live_at, still}
+use Rattle.oxt_scoping.specs.declared.entry.Reference.{Reference}
+use Rattle.oxt_search.specs.First.{first_in}
+use Rattle.oxt_search.specs.Sought.{Sought}
+use Rattle.oxt_search.specs.declared.search.Inside.TheVariants as inside
+use Rattle.oxt_names.specs.declared.ids.ReferenceId.{ReferenceId}
+use Rattle.oxt_names.specs.declared.ids.SymbolId.{SymbolId}
+use Rattle.oxt_grammar.specs.Places.{same_kind}
+use Rattle.oxt_grammar.specs.declared.kind.Kind.{Kind}
+use Rattle.oxt_grammar.specs.declared.kind.Kind.TheVariants as kind
+use Rattle.oxt_tree.specs.Doc.{Doc}
+use Rattle.oxt_tree.specs.declared.ids.NodeId.{NodeId}
+use Rattle.oxt_unbuilt.specs.Dropped.{is_dropped_by}
+
+-- ---- symbols
+
+-- a symbol by its number, if there is one
+abbrev pub symbol_in : List SymbolData → Option SymbolId → Option SymbolData
+symbol_in ys None = None
+symbol_in ys (Some i) = slice_get ys i.0
+
+-- the symbol of a member of an enum
+abbrev pub is_member_symbol : Option SymbolData → Bool
+is_member_symbol None = false
+is_member_symbol (Some y) = bit_and y.flags.0 4096 == 4096
+
+-- the same of a symbol by its number
+abbrev pub is_member : Scoped → Option SymbolId → Bool
+is_member s o = is_member_symbol (symbol_in s.symbols o)
+
+-- ---- references
+
+-- a use as a value, and not in a type
+abbrev pub by_value : Option Reference → Option Reference
+by_value None = None
+by_value (Some r) = if bit_and r.flags.0 4 == 4 then None else Some r
+
+-- the same of a reference by its number
+abbrev pub by_number : Scoped → Option ReferenceId → Option Reference
+by_number s None = None
+by_number s (Some r) = by_value (live_at s.references r.0)
+
+-- how the node of that number is used, if it is a name that is used as a value
+abbrev pub value_use : Scoped → ℕ → Option Reference
+value_use s n = by_number s (still s.references (at_node (record { 0 = n }) s.named))
+
+-- the name means a member of an enum, and it is written or names an element of JSX
+abbrev pub is_misused_as : Scoped → Bool → Reference → Bool
+is_misused_as s b r = (b || bit_and r.flags.0 2 == 2) && is_member s r.symbol
+
+-- the same, if it is a name that is used
+abbrev pub is_misused_use : Scoped → Bool → Option Reference → Bool
+is_misused_use s b None = false
+is_misused_use s b (Some r) = is_misused_as s b r
+
+-- the node of that number is such a name, where that says whether it names an element
+abbrev pub is_misused : Scoped → ℕ → Bool → Bool
+is_misused s n b = is_misused_use s b (value_use s n)
+
+-- ---- trees
+
+-- a name in a node of the kind names an element of JSX, or is the first part of such a name
+abbrev pub names_element : Kind → Bool
+names_element k = same_kind k kind.JSXOpeningElement || (same_kind k kind.JSXClosingElement || same_kind k kind.JSXMemberExpression)
+
+abbrev pub misused_at : Scoped → Bool → ℕ → Option ℕ
+misused_at s b i = if is_misused s i b then Some i else None
+
+abbrev pub number_of : NodeId → ℕ
+number_of i = i.0
+
+-- outside what is erased, each node that is such a name; the state says whether a name there names an element
+abbrev pub sought : Scoped → Sought Bool ℕ
+sought s =
+    record {
+      at = λ b k i ds. if is_dropped_by k ds then None else misused_at s b i;
+      inside = λ b k i ds. if is_dropped_by k ds then inside.Skipped else inside.Alike (names_element k);
+      in_field = λ b k r. Some b;
+    }
+
+-- the number of the first such name of a whole tree: a node stands before those in it
+abbrev pub misused : Scoped → Doc → Option ℕ
+misused s d = first_in (sought s) d false

@@ -1,0 +1,37 @@
+//! Blocks before which nothing of their name emits code.
+ghost use Rattle.std.specs.Prelude.{◌≡◌, IfOk, map};
+ghost use Rattle.oxt_enum_checks.specs.First.{first_blocks};
+ghost use Rattle.oxt_tree.specs.View.{node_doc};
+
+use crate::places::Places;
+use crate::sought::{Block, Sought, sought_blocks};
+use oxt_scoping::scoping::Scoping;
+use oxt_tree::ids::{NodeId, OutOfMemory};
+use oxt_tree::tree::Node;
+use std::alloc::Global;
+
+/// The numbers of the blocks of enums and namespaces that emit code and before which no declaration
+/// of their name in their scope does, in the order of the text. `scoping` is the table of the program.
+///
+/// # Errors
+///
+/// Nothing but want of memory.
+pub fn first_blocks(
+    alloc: Global,
+    program: &Node,
+    scoping: &Scoping,
+) -> Result<Vec<NodeId>, OutOfMemory>
+    ensures { IfOk result (λ nodes. map (λ node. node.0) nodes.items
+        ≡ first_blocks scoping.now (node_doc program.now)) }
+{
+    let places = Places::of_tree(alloc, program)?;
+    let blocks = sought_blocks(alloc, program, scoping, &places, Sought::Any)?;
+    nodes_of(alloc, blocks.as_slice())
+}
+
+/// The nodes that are the blocks.
+fn nodes_of(alloc: Global, blocks: &[Block]) -> Result<Vec<NodeId>, OutOfMemory>
+    ensures { IfOk result (λ nodes. nodes.items ≡ map (λ block. block.node) blocks.now) }
+{
+    Ok(blocks.iter().map(|block| block.node).collect(alloc)?)
+}

@@ -1,0 +1,18 @@
+//! What the lowering of enums asks of a source: which blocks come first, which declarations do not merge, and which members
+//! and bare names cannot be lowered.
+#![tactic(auto)]
+
+mod around;
+pub mod clash;
+pub mod first;
+mod members;
+pub mod misnamed;
+mod misused;
+mod places;
+mod repeated;
+pub mod shadowed;
+mod shadows;
+mod sort;
+mod sought;
+mod uses;
+pub mod wide;

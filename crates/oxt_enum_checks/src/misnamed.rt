@@ -1,0 +1,42 @@
+//! The first member, or bare name of a member, that stands in the way.
+ghost use Rattle.std.specs.Prelude.{◌≡◌, IfOk};
+ghost use Rattle.oxt_enum_checks.specs.Misnamed.{lesser, misnamed};
+ghost use Rattle.oxt_scopes.specs.Stack.{number_at};
+ghost use Rattle.oxt_tree.specs.View.{node_doc};
+
+use crate::members::members_of;
+use crate::misused::first_misused;
+use crate::repeated::first_repeated;
+use oxt_scoping::scoping::Scoping;
+use oxt_tree::ids::{NodeId, OutOfMemory};
+use oxt_tree::tree::Node;
+use std::alloc::Global;
+
+/// The least number of a node, outside what is erased, that is a member with the name of its enum or of a member
+/// that stands earlier in the enum, or a bare name that means a member and is written or names an element of JSX.
+///
+/// # Errors
+///
+/// Fails only where memory runs out.
+pub fn first_misnamed(
+    alloc: Global,
+    program: &Node,
+    scoping: &Scoping,
+) -> Result<Option<NodeId>, OutOfMemory>
+    ensures { IfOk result (λ found. number_at found ≡ misnamed scoping.now (node_doc program.now)) }
+{
+    let members = members_of(alloc, program, scoping)?;
+    let repeated = first_repeated(alloc, members.as_slice())?;
+    Ok(lesser(repeated, first_misused(program, scoping)))
+}
+
+/// The lesser of two numbers, or the one that there is.
+fn lesser(one: Option<NodeId>, other: Option<NodeId>) -> Option<NodeId>
+    ensures { number_at result ≡ lesser (number_at one) (number_at other) }
+{
+    match (one, other) {
+        (Some(one), Some(other)) => Some(NodeId(one.0.min(other.0))),
+        (Some(one), None) => Some(one),
+        (None, other) => other,
+    }
+}

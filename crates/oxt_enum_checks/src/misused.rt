@@ -1,0 +1,129 @@
+//! The first bare name of a member that stands where its value cannot.
+ghost use Rattle.std.specs.Prelude.{◌≡◌, ℕ, option_map};
+ghost use Rattle.oxt_enum_checks.specs.Misused.{is_member, is_misused, is_misused_as, misused, misused_at, names_element, number_of, sought, value_use};
+ghost use Rattle.oxt_scopes.specs.Stack.{number_at};
+ghost use Rattle.oxt_tree.specs.View.{node_doc};
+
+use bitflags::Flags;
+use oxt_grammar::holds::Row;
+use oxt_grammar::kind::Kind;
+use oxt_names::flags::{ReferenceFlags, SymbolFlags};
+use oxt_names::ids::SymbolId;
+use oxt_scoping::entry::Reference;
+use oxt_scoping::scoping::Scoping;
+use oxt_search::first::first_in;
+use oxt_search::search::{Inside, Search, Visit};
+use oxt_tree::ids::NodeId;
+use oxt_tree::tree::Node;
+use oxt_unbuilt::dropped::is_dropped;
+
+/// The first bare name in the program, outside what is erased and outside types, that means a member of an enum
+/// and is written, or names an element of JSX.
+#[tactic(auto, using(crate::proofs::Numbers::number_of_found))]
+pub fn first_misused(program: &Node, scoping: &Scoping) -> Option<NodeId>
+    ensures { number_at result ≡ misused scoping.now (node_doc program.now) }
+{
+    first_in(&Misuses { scoping }, program, false)
+}
+
+/// The search for such names. What is handed down is whether a name there names an element.
+#[derive(Clone, Copy)]
+struct Misuses<'a> {
+    /// What the names mean.
+    scoping: &'a Scoping,
+}
+
+impl<'a> Search for Misuses<'a> {
+    type State = bool;
+
+    type Found = NodeId;
+
+    ghost Seen = { ℕ };
+
+    ghost view = { number_of };
+
+    ghost sought = { λ misuses. sought misuses.scoping.now };
+
+    fn visit(&self, node: &Node, is_element: bool) -> Visit<NodeId, bool> {
+        if is_dropped(node) {
+            Visit {
+                found: None,
+                inside: Inside::Skipped,
+            }
+        } else {
+            Visit {
+                found: misused_at(node.id, self.scoping, is_element),
+                inside: Inside::Alike(names_element(node.kind)),
+            }
+        }
+    }
+
+    fn in_field(&self, is_element: bool, _kind: Kind, _row: &Row) -> Option<bool> {
+        Some(is_element)
+    }
+}
+
+/// The node of that number, if it is such a name.
+fn misused_at(node: NodeId, scoping: &Scoping, is_element: bool) -> Option<NodeId>
+    ensures { option_map number_of result ≡ misused_at scoping.now is_element node.0 }
+{
+    if is_misused(node, scoping, is_element) {
+        Some(node)
+    } else {
+        None
+    }
+}
+
+/// Whether a name in a node of the kind names an element of JSX, or is the first part of such a name.
+fn names_element(kind: Kind) -> bool
+    ensures { result ≡ names_element kind }
+{
+    kind.is(Kind::JSXOpeningElement)
+        || kind.is(Kind::JSXClosingElement)
+        || kind.is(Kind::JSXMemberExpression)
+}
+
+/// Whether the node of that number is such a name.
+fn is_misused(node: NodeId, scoping: &Scoping, is_element: bool) -> bool
+    ensures { result ≡ is_misused scoping.now node.0 is_element }
+{
+    match value_use(node, scoping) {
+        Some(reference) => is_misused_as(scoping, reference, is_element),
+        None => false,
+    }
+}
+
+/// Whether a name that is used so is such a name.
+fn is_misused_as(scoping: &Scoping, reference: Reference, is_element: bool) -> bool
+    ensures { result ≡ is_misused_as scoping.now is_element reference }
+{
+    (is_element || reference.flags.contains(ReferenceFlags::Write))
+        && is_member(scoping, reference.symbol)
+}
+
+/// How the node of that number is used, if it is a name that is used as a value.
+pub fn value_use(node: NodeId, scoping: &Scoping) -> Option<Reference>
+    ensures { result ≡ value_use scoping.now node.0 }
+{
+    let reference = scoping.get_reference(scoping.reference_of(node)?);
+    if reference.flags.contains(ReferenceFlags::TypeUse) {
+        None
+    } else {
+        Some(*reference)
+    }
+}
+
+/// Whether it is the symbol of a member of an enum.
+pub fn is_member(scoping: &Scoping, symbol: Option<SymbolId>) -> bool
+    ensures { result ≡ is_member scoping.now symbol }
+{
+    match symbol {
+        Some(symbol) => {
+            scoping.has_symbol(symbol)
+                && scoping
+                    .symbol_flags(symbol)
+                    .contains(SymbolFlags::EnumMember)
+        }
+        None => false,
+    }
+}

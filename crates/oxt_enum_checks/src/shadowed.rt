@@ -1,0 +1,166 @@
+//! The first bare name of a member at which the name of its enum means something else.
+ghost use Rattle.std.specs.Prelude.{◌≡◌, ◌++◌, IfOk, OnOk, option_map};
+ghost use Rattle.oxt_enum_checks.specs.Around.{around_view};
+ghost use Rattle.oxt_enum_checks.specs.Shadows.{all_among, all_shadows, initializer_shadows, least, lesser, member_shadows, shadow_view, shadow_views, shadowed};
+ghost use Rattle.oxt_tree.specs.View.{doc_or_nil, docs_in, node_doc, part_doc};
+
+use crate::around::{EnumAround, enum_of, within};
+use crate::shadows::{Search, push_initializer};
+use oxt_grammar::kind::Kind;
+use oxt_names::ids::SymbolId;
+use oxt_scoping::scoping::Scoping;
+use oxt_tree::ids::{NodeId, OutOfMemory};
+use oxt_tree::name::Name;
+use oxt_tree::tree::{Node, Part};
+use oxt_unbuilt::dropped::is_dropped;
+use std::alloc::Global;
+
+/// A bare name of a member at which the name of its enum means something else.
+#[derive(Clone, Copy, Debug)]
+pub struct ShadowedName<'a> {
+    /// The node that is the bare name.
+    pub node: NodeId,
+    /// The name of the enum.
+    pub name: &'a Name,
+}
+
+/// The bare name of the least number, outside what is erased and outside types, that stands in an initializer of
+/// an enum and means a member of that enum, where the name of the enum means a declaration of the initializer.
+///
+/// # Errors
+///
+/// Fails only where memory runs out.
+pub fn first_shadowed<'a>(
+    alloc: Global,
+    program: &'a Node,
+    scoping: &'a Scoping,
+) -> Result<Option<ShadowedName<'a>>, OutOfMemory>
+    ensures { IfOk result (λ found. option_map shadow_view found ≡ shadowed scoping.now (node_doc program.now)) }
+{
+    let mut out = Vec::new(alloc);
+    push_node(alloc, scoping, program, None, &mut out)?;
+    Ok(least(out.as_slice()))
+}
+
+/// The one of the least number.
+#[tactic(auto, using(crate::proofs::Leasts::steps))]
+fn least<'a>(names: &[ShadowedName<'a>]) -> Option<ShadowedName<'a>>
+    ensures { option_map shadow_view result ≡ least (shadow_views names.now) }
+{
+    let mut least = None;
+    for name in names {
+        least = lesser(least, *name);
+    }
+    least
+}
+
+/// The one of the lesser number.
+fn lesser<'a>(least: Option<ShadowedName<'a>>, name: ShadowedName<'a>) -> Option<ShadowedName<'a>>
+    ensures { option_map shadow_view result
+        ≡ lesser (option_map shadow_view least.entry) (shadow_view name.entry) }
+{
+    match least {
+        Some(least) => {
+            if name.node.0 < least.node.0 {
+                Some(name)
+            } else {
+                Some(least)
+            }
+        }
+        None => Some(name),
+    }
+}
+
+/// Appends such names in the initializers in the node, which stands in that enum.
+#[cycle(find)]
+fn push_node<'a>(
+    alloc: Global,
+    scoping: &'a Scoping,
+    node: &'a Node,
+    around: Option<SymbolId>,
+    out: &mut Vec<ShadowedName<'a>>,
+) -> Result<(), OutOfMemory>
+    ensures { OnOk result (shadow_views out.new.items
+        ≡ shadow_views out.old.items ++ all_shadows scoping.now (node_doc node.now) around) }
+{
+    if is_dropped(node) {
+        return Ok(());
+    }
+    push_member(alloc, scoping, node, around, out)?;
+    let within = within(scoping, node, around);
+    push_each(alloc, scoping, &node.parts, within, out)
+}
+
+/// Appends such names in the initializers in the part, which stands in that enum.
+#[cycle(find)]
+fn push_part<'a>(
+    alloc: Global,
+    scoping: &'a Scoping,
+    part: &'a Part,
+    around: Option<SymbolId>,
+    out: &mut Vec<ShadowedName<'a>>,
+) -> Result<(), OutOfMemory>
+    ensures { OnOk result (shadow_views out.new.items
+        ≡ shadow_views out.old.items ++ all_shadows scoping.now (part_doc part.now) around) }
+{
+    match part {
+        Part::Node(node) => push_node(alloc, scoping, node, around, out),
+        Part::List(parts) => push_each(alloc, scoping, parts, around, out),
+        _ => Ok(()),
+    }
+}
+
+/// Appends such names in the initializers in the parts, which stand in that enum.
+#[cycle(find)]
+#[tactic(auto, using(crate::proofs::ShadowLoops::all_steps))]
+fn push_each<'a>(
+    alloc: Global,
+    scoping: &'a Scoping,
+    parts: &'a [Part],
+    around: Option<SymbolId>,
+    out: &mut Vec<ShadowedName<'a>>,
+) -> Result<(), OutOfMemory>
+    ensures { OnOk result (shadow_views out.new.items
+        ≡ shadow_views out.old.items ++ all_among scoping.now (docs_in parts.now) around) }
+{
+    for part in parts {
+        push_part(alloc, scoping, part, around, out)?;
+    }
+    Ok(())
+}
+
+/// Appends such names in the initializer of the node, if it is a member of that enum.
+fn push_member<'a>(
+    alloc: Global,
+    scoping: &'a Scoping,
+    node: &'a Node,
+    around: Option<SymbolId>,
+    out: &mut Vec<ShadowedName<'a>>,
+) -> Result<(), OutOfMemory>
+    ensures { OnOk result (shadow_views out.new.items
+        ≡ shadow_views out.old.items ++ member_shadows scoping.now node.now.kind (docs_in node.now.parts.items) around) }
+{
+    if node.kind.is(Kind::TSEnumMember) {
+        let around = enum_of(scoping, around);
+        push_in(alloc, scoping, node.field("initializer"), around, out)
+    } else {
+        Ok(())
+    }
+}
+
+/// Appends such names in the initializer of a member of that enum, if it is one.
+fn push_in<'a>(
+    alloc: Global,
+    scoping: &'a Scoping,
+    initializer: Option<&'a Part>,
+    around: Option<EnumAround<'a>>,
+    out: &mut Vec<ShadowedName<'a>>,
+) -> Result<(), OutOfMemory>
+    ensures { OnOk result (shadow_views out.new.items
+        ≡ shadow_views out.old.items ++ initializer_shadows scoping.now (doc_or_nil initializer.entry) (option_map around_view around.entry)) }
+{
+    match around {
+        Some(around) => push_initializer(alloc, Search { scoping, around }, initializer, out),
+        None => Ok(()),
+    }
+}

@@ -1,0 +1,233 @@
+//! The first blocks of symbols, of those declarations that are sought.
+ghost use Rattle.std.specs.Prelude.{◌≡◌, ◌<◌, IfOk, Some, length, option_map, slice_get};
+ghost use Rattle.oxt_enum_checks.specs.Sought.{block_if, block_named, blocks_in, emits, first_at, first_name, first_names, fits, is_block_kind, is_first, is_sought, named_blocks, own_block, sought_blocks};
+ghost use Rattle.oxt_enum_checks.specs.Places.{places_in};
+ghost use Rattle.oxt_enum_checks.specs.declared.sought.Block.{Block};
+ghost use Rattle.oxt_tree.specs.View.{doc_or_nil, docs_in, node_doc};
+
+use crate::places::Places;
+use crate::sort::{is_block, sort_of};
+use oxt_grammar::holds::Row;
+use oxt_grammar::kind::Kind;
+use oxt_names::flags::SymbolFlags;
+use oxt_names::ids::SymbolId;
+use oxt_scoping::entry::Redeclaration;
+use oxt_scoping::scoping::Scoping;
+use oxt_search::all::all_in;
+use oxt_search::search::{Inside, Search, Visit};
+use oxt_tree::ids::{NodeId, OutOfMemory};
+use oxt_tree::tree::{Node, Part};
+use std::alloc::Global;
+
+/// A block of an enum or a namespace.
+#[derive(Clone, Copy)]
+pub struct Block {
+    /// The node.
+    pub node: NodeId,
+    /// The node that is its name.
+    pub name: NodeId,
+}
+
+/// Which declarations are looked for.
+#[derive(Clone, Copy)]
+pub enum Sought {
+    /// All that emit code.
+    Any,
+    /// Those of them that are blocks.
+    Block,
+}
+
+/// The blocks that are the first of their symbols' declarations that are sought, in the order of the
+/// text. `places` are the declarations of the names of the program.
+pub fn sought_blocks(
+    alloc: Global,
+    program: &Node,
+    scoping: &Scoping,
+    places: &Places,
+    sought: Sought,
+) -> Result<Vec<Block>, OutOfMemory>
+    ensures { IfOk result (λ blocks. blocks.items
+        ≡ sought_blocks (places_in places.now) sought scoping.now (node_doc program.now)) }
+{
+    let firsts = first_names(alloc, scoping, places, sought)?;
+    blocks_of(alloc, program, scoping, firsts.as_slice())
+}
+
+/// Of each symbol the number of the name by which the first declaration that is sought declares it.
+#[tactic(auto, using(crate::proofs::Symbols::finding_steps))]
+fn first_names(
+    alloc: Global,
+    scoping: &Scoping,
+    places: &Places,
+    sought: Sought,
+) -> Result<Vec<Option<u64>>, OutOfMemory>
+    ensures { IfOk result (λ found. found.items
+        ≡ first_names (places_in places.now) sought scoping.now.symbols) }
+{
+    let mut found = Vec::new(alloc);
+    while scoping.has_symbol(SymbolId(found.len() as u64)) {
+        let name = first_of(scoping, places, sought, SymbolId(found.len() as u64));
+        found.push(name)?;
+    }
+    Ok(found)
+}
+
+/// The same of that symbol.
+#[tactic(auto, using(crate::proofs::Symbols::first_so))]
+fn first_of(scoping: &Scoping, places: &Places, sought: Sought, symbol: SymbolId) -> Option<u64>
+    requires { symbol.0 < length scoping.now.symbols }
+    ensures { option_map (λ y. first_name (places_in places.now) sought y.declarations) (slice_get scoping.now.symbols symbol.0) ≡ Some result }
+{
+    first_name(places, sought, scoping.symbol_redeclarations(symbol))
+}
+
+/// The number of the name by which the first of the declarations that is sought declares it.
+fn first_name(places: &Places, sought: Sought, declarations: &[Redeclaration]) -> Option<u64>
+    ensures { result ≡ first_name (places_in places.now) sought declarations.now }
+{
+    match declarations
+        .iter()
+        .find(|declaration| is_sought(places, sought, declaration))
+    {
+        Some(declaration) => Some(declaration.node.0),
+        None => None,
+    }
+}
+
+/// Whether the declaration is sought.
+fn is_sought(places: &Places, sought: Sought, declaration: &Redeclaration) -> bool
+    ensures { result ≡ is_sought (places_in places.now) sought declaration.now }
+{
+    emits(places, declaration) && fits(sought, declaration.flags)
+}
+
+/// Whether the declaration emits code. The name of a function expression, which no declaration
+/// declares, does not count: what the function declares by that name hides it.
+fn emits(places: &Places, declaration: &Redeclaration) -> bool
+    ensures { result ≡ emits (places_in places.now) declaration.now }
+{
+    declaration.emits && places.place_of(declaration.node).is_some()
+}
+
+/// Whether a declaration with those flags is sought where it emits code.
+fn fits(sought: Sought, flags: SymbolFlags) -> bool
+    ensures { result ≡ fits sought flags }
+{
+    match sought {
+        Sought::Any => true,
+        Sought::Block => is_block(sort_of(flags)),
+    }
+}
+
+/// The blocks whose names `firsts` has for their symbols, in the order of the text.
+#[tactic(auto, using(oxt_search::proofs::Given::as_it_is))]
+fn blocks_of(
+    alloc: Global,
+    program: &Node,
+    scoping: &Scoping,
+    firsts: &[Option<u64>],
+) -> Result<Vec<Block>, OutOfMemory>
+    ensures { IfOk result (λ blocks. blocks.items
+        ≡ blocks_in scoping.now firsts.now (node_doc program.now)) }
+{
+    all_in(alloc, &Blocks { scoping, firsts }, program, ())
+}
+
+/// The search for such blocks.
+#[derive(Clone, Copy)]
+struct Blocks<'a> {
+    /// What the names declare.
+    scoping: &'a Scoping,
+    /// The name that is sought of each symbol.
+    firsts: &'a [Option<u64>],
+}
+
+impl<'a> Search for Blocks<'a> {
+    type State = ();
+
+    type Found = Block;
+
+    ghost Seen = { Block };
+
+    ghost view = { λ block. block };
+
+    ghost sought = { λ blocks. named_blocks blocks.scoping.now blocks.firsts.now };
+
+    #[tactic(auto, using(oxt_search::proofs::Given::as_it_is))]
+    fn visit(&self, node: &Node, _state: ()) -> Visit<Block, ()> {
+        Visit {
+            found: own_block(self.scoping, self.firsts, node),
+            inside: Inside::Alike(()),
+        }
+    }
+
+    fn in_field(&self, _state: (), _kind: Kind, _row: &Row) -> Option<()> {
+        Some(())
+    }
+}
+
+/// The node, if it is such a block.
+fn own_block(scoping: &Scoping, firsts: &[Option<u64>], node: &Node) -> Option<Block>
+    ensures { result
+        ≡ own_block scoping.now firsts.now node.now.kind node.now.id.0 (docs_in node.now.parts.items) }
+{
+    if is_block_kind(node.kind) {
+        block_named(scoping, firsts, node.id, node.field("id"))
+    } else {
+        None
+    }
+}
+
+/// Whether nodes of the kind are blocks.
+fn is_block_kind(kind: Kind) -> bool
+    ensures { result ≡ is_block_kind kind }
+{
+    match kind {
+        Kind::TSEnumDeclaration => true,
+        Kind::TSNamespaceDeclaration => true,
+        _ => false,
+    }
+}
+
+/// The block with that name, if `firsts` has the name.
+fn block_named(
+    scoping: &Scoping,
+    firsts: &[Option<u64>],
+    node: NodeId,
+    name: Option<&Part>,
+) -> Option<Block>
+    ensures { result ≡ block_named scoping.now firsts.now node.0 (doc_or_nil name.entry) }
+{
+    match name {
+        Some(Part::Node(name)) => block_if(is_first(scoping, firsts, name.id), node, name.id),
+        _ => None,
+    }
+}
+
+/// The block, where that is so.
+fn block_if(is_first: bool, node: NodeId, name: NodeId) -> Option<Block>
+    ensures { result ≡ block_if is_first node.0 name.0 }
+{
+    if is_first {
+        Some(Block { node, name })
+    } else {
+        None
+    }
+}
+
+/// Whether `firsts` has the name for the symbol that it declares.
+fn is_first(scoping: &Scoping, firsts: &[Option<u64>], name: NodeId) -> bool
+    ensures { result ≡ is_first scoping.now firsts.now name.0 }
+{
+    first_at(firsts, scoping.symbol_of(name)) == Some(name.0)
+}
+
+/// The name that `firsts` has for the symbol.
+fn first_at(firsts: &[Option<u64>], symbol: Option<SymbolId>) -> Option<u64>
+    ensures { result ≡ first_at firsts.now symbol }
+{
+    match symbol {
+        Some(symbol) => firsts.get(symbol.0 as usize).copied().unwrap_or(None),
+        None => None,
+    }
+}

@@ -1,0 +1,111 @@
+-- Names that would change their owner once erased declarations are gone.
+use Rattle.std.specs.Prelude.{ℕ, zero, suc, List, Bool, false, not, ◌&&◌, ◌||◌, ◌==◌, if◌then◌else◌, Option, None, Some, slice_get}
+use Rattle.std.specs.Int.RustNames.{bit_and}
+use Rattle.std.specs.List.{list_any}
+use Rattle.oxt_faults.specs.declared.captured.CapturedName.{CapturedName}
+use Rattle.oxt_scoping.specs.Entries.{ScopeData, SymbolData}
+use Rattle.oxt_scoping.specs.Scoped.{Scoped, at_node, binding_at, live_at, still}
+use Rattle.oxt_scoping.specs.declared.entry.Redeclaration.{Redeclaration}
+use Rattle.oxt_scoping.specs.declared.entry.Reference.{Reference}
+use Rattle.oxt_search.specs.First.{first_in}
+use Rattle.oxt_search.specs.Sought.{Sought}
+use Rattle.oxt_search.specs.declared.search.Inside.TheVariants as inside
+use Rattle.oxt_names.specs.declared.flags.ReferenceFlags.{ReferenceFlags}
+use Rattle.oxt_names.specs.declared.ids.ReferenceId.{ReferenceId}
+use Rattle.oxt_names.specs.declared.ids.ScopeId.{ScopeId}
+use Rattle.oxt_names.specs.declared.ids.SymbolId.{SymbolId}
+use Rattle.oxt_tree.specs.Doc.{Doc}
+use Rattle.oxt_tree.specs.Names.{name_bytes}
+use Rattle.oxt_unbuilt.specs.Dropped.{is_dropped_by}
+
+-- the number of the node that is the name, and its spelling
+pub record Capture : Type 0 where
+  pub node : ℕ
+  pub name : List ℕ
+
+abbrev pub capture_view : CapturedName → Capture
+capture_view c = record { node = c.node.0; name = name_bytes c.name.now }
+
+-- ---- symbols
+
+-- one of the declarations emits code
+abbrev pub emits : List Redeclaration → Bool
+emits ds = list_any (λ d. d.emits) ds
+
+-- a declaration of the symbol emits code
+abbrev pub is_emitted : Option SymbolData → Bool
+is_emitted None = false
+is_emitted (Some y) = emits y.declarations
+
+-- the symbol, if there is one with that number
+abbrev pub symbol_at : List SymbolData → Option SymbolId → Option SymbolData
+symbol_at ys None = None
+symbol_at ys (Some i) = slice_get ys i.0
+
+-- the scope binds the spelling to a symbol of which a declaration emits code
+abbrev pub emits_at : Scoped → List ℕ → ScopeId → Bool
+emits_at s t i = is_emitted (symbol_at s.symbols (binding_at s.scopes i.0 t))
+
+-- the scope around the scope
+abbrev pub around : Option ScopeData → Option ScopeId
+around None = None
+around (Some x) = x.parent
+
+-- A scope from that one outwards does so, through at most so many scopes.
+abbrev pub emits_from : ℕ → Scoped → List ℕ → Option ScopeId → Bool
+emits_from zero s t i = false
+emits_from (suc n) s t None = false
+emits_from (suc n) s t (Some i) = emits_at s t i || emits_from n s t (around (slice_get s.scopes i.0))
+
+-- A scope further out than that one does so: there are no more of them than its number says, since a
+-- scope is made after those around it.
+abbrev pub emits_outside : Scoped → List ℕ → ScopeId → Bool
+emits_outside s t i = emits_from i.0 s t (around (slice_get s.scopes i.0))
+
+-- No declaration of the symbol emits code, while its name means one that does in a scope further out.
+abbrev pub is_captured : Scoped → SymbolData → Bool
+is_captured s y = not (emits y.declarations) && emits_outside s y.name y.scope
+
+-- ---- references
+
+-- a use as a value, and not in a type
+abbrev pub is_value_use : ReferenceFlags → Bool
+is_value_use f = not (bit_and f.0 4 == 4)
+
+-- the symbol that a use as a value means
+abbrev pub meant_by_value : Option Reference → Option SymbolId
+meant_by_value None = None
+meant_by_value (Some r) = if is_value_use r.flags then r.symbol else None
+
+-- the same of the reference with that number
+abbrev pub meant_by_number : Scoped → Option ReferenceId → Option SymbolId
+meant_by_number s None = None
+meant_by_number s (Some r) = meant_by_value (live_at s.references r.0)
+
+-- the symbol that the node with that number means, if it is used as a value
+abbrev pub value_meant : Scoped → ℕ → Option SymbolId
+value_meant s n = meant_by_number s (still s.references (at_node (record { 0 = n }) s.named))
+
+-- the node, where the symbol that it means is captured
+abbrev pub captured_as : Scoped → ℕ → Option SymbolData → Option Capture
+captured_as s n None = None
+captured_as s n (Some y) = if is_captured s y then Some (record { node = n; name = y.name }) else None
+
+-- the node with that number, if it is a captured name
+abbrev pub captured_at : Scoped → ℕ → Option Capture
+captured_at s n = captured_as s n (symbol_at s.symbols (value_meant s n))
+
+-- ---- trees
+
+-- outside what is erased, each node that is a captured name
+abbrev pub sought : Scoped → Sought (Unit {0}) Capture
+sought s =
+    record {
+      at = λ u k i ds. if is_dropped_by k ds then None else captured_at s i;
+      inside = λ u k i ds. if is_dropped_by k ds then inside.Skipped else inside.Alike u;
+      in_field = λ u k r. Some u;
+    }
+
+-- the first captured name of a whole tree: a node stands before those in it
+abbrev pub captured : Scoped → Doc → Option Capture
+captured s d = first_in (sought s) d tt

@@ -1,0 +1,117 @@
+//! The first word at the level of a piece of code.
+ghost use Rattle.std.specs.Prelude.{◌≡◌, option_map};
+ghost use Rattle.oxt_faults.specs.Level.{LevelWordAt, at_level, found_at, found_view, level_word, level_words, owns_await, sought};
+ghost use Rattle.oxt_tree.specs.View.{docs_in, node_doc};
+
+use crate::reach::{Reach, reach_of};
+use crate::silent::is_silent;
+use crate::word::{LevelWord, word_at};
+use oxt_grammar::holds::Row;
+use oxt_grammar::kind::Kind;
+use oxt_search::first::{first_among, first_in};
+use oxt_search::search::{Inside, Search, Visit};
+use oxt_tree::ids::NodeId;
+use oxt_tree::tree::{Node, Part};
+
+/// A word at the level of some code.
+#[derive(Clone, Copy, Debug, PartialEq, Eq)]
+pub struct FoundWord {
+    /// The word.
+    pub word: LevelWord,
+    /// The number of the node that it is.
+    pub node: NodeId,
+}
+
+/// What the search for such words knows of the nodes around a node.
+#[derive(Clone, Copy, Debug)]
+pub struct Around {
+    /// What of the node stands at the level.
+    pub reach: Reach,
+    /// An async arrow gives `await` its own meaning.
+    pub owns_await: bool,
+}
+
+/// The first word at the level of the node, where a node comes before those in it: a word that would mean something
+/// else if the node stood in a function of its own. None stands in erased code, in a type, in a function that is no
+/// arrow, nor in the methods, the values of fields and the static blocks of a class.
+pub fn first_level_word(node: &Node) -> Option<FoundWord>
+    ensures { option_map found_view result ≡ level_word (node_doc node.now) }
+{
+    first_in(&LevelWords, node, at_level())
+}
+
+/// The first word at the level of the parts, as of a body.
+pub fn first_level_word_in(parts: &[Part]) -> Option<FoundWord>
+    ensures { option_map found_view result ≡ level_words (docs_in parts.now) }
+{
+    first_among(&LevelWords, parts, at_level())
+}
+
+/// Code at the level itself.
+fn at_level() -> Around
+    ensures { result ≡ at_level }
+{
+    Around {
+        reach: Reach::Level,
+        owns_await: false,
+    }
+}
+
+/// The search for such words.
+#[derive(Clone, Copy)]
+struct LevelWords;
+
+impl Search for LevelWords {
+    type State = Around;
+
+    type Found = FoundWord;
+
+    ghost Seen = { LevelWordAt };
+
+    ghost view = { found_view };
+
+    ghost sought = { λ _. sought };
+
+    fn visit(&self, node: &Node, around: Around) -> Visit<FoundWord, Around> {
+        if is_silent(around.reach, node) {
+            Visit {
+                found: None,
+                inside: Inside::Skipped,
+            }
+        } else {
+            Visit {
+                found: found_at(around.owns_await, node),
+                inside: Inside::ByField(Around {
+                    reach: around.reach,
+                    owns_await: owns_await(around.owns_await, node),
+                }),
+            }
+        }
+    }
+
+    fn in_field(&self, around: Around, kind: Kind, row: &Row) -> Option<Around> {
+        Some(Around {
+            reach: reach_of(around.reach, kind, row),
+            owns_await: around.owns_await,
+        })
+    }
+}
+
+/// The word that the node itself is, with its number.
+fn found_at(owns_await: bool, node: &Node) -> Option<FoundWord>
+    ensures { option_map found_view result
+        ≡ found_at owns_await node.now.kind node.now.id.0 (docs_in node.now.parts.items) }
+{
+    let word = word_at(owns_await, node)?;
+    Some(FoundWord {
+        word,
+        node: node.id,
+    })
+}
+
+/// Whether `await` has a meaning of its own in the node: one around it gives it that, or it is an async arrow.
+fn owns_await(own: bool, node: &Node) -> bool
+    ensures { result ≡ owns_await own node.now.kind (docs_in node.now.parts.items) }
+{
+    own || (node.kind.is(Kind::ArrowFunctionExpression) && node.flag("async"))
+}

@@ -1,0 +1,101 @@
+//! The first node that stands where it may not.
+//!
+//! One search answers for all kinds. One more refusal is a test of the node at whose place it is answered: a variant of
+//! `MisplacedKind`, its place in the list `misplaced_kinds`, and its arm in `is_misplaced`, in `rules` and with the same
+//! names in specs/Misplaced.antt; its word on the line of standard error is in `kind_text` of `oxt_check`. What the test
+//! has to know of the nodes around is handed down in the state of the search, `Seat`; a table that it looks into is a
+//! field of `Misplacements`.
+ghost use Rattle.std.specs.Prelude.{◌≡◌, find, option_map};
+ghost use Rattle.oxt_faults.specs.Misplaced.{Misplacement, is_misplaced, misplaced, misplaced_at, misplaced_kinds, misplaced_view, sought};
+ghost use Rattle.oxt_tree.specs.View.{docs_in, node_doc};
+
+use crate::rules::{is_misplaced, misplaced_kinds};
+use crate::seat::{Seat, seat_of};
+use oxt_grammar::holds::Row;
+use oxt_grammar::kind::Kind;
+use oxt_search::first::first_in;
+use oxt_search::search::{Inside, Search, Visit};
+use oxt_tree::ids::NodeId;
+use oxt_tree::tree::Node;
+use oxt_unbuilt::dropped::is_dropped;
+
+/// What is wrong with the place of a node.
+#[derive(Clone, Copy, Debug, PartialEq, Eq)]
+pub enum MisplacedKind {
+    /// It stands as the only statement of a label, a branch, a loop or `with`, or in the head of a `for`.
+    Body,
+    /// It decorates what has no decorators.
+    Decorator,
+}
+
+/// A node that stands where it may not.
+#[derive(Clone, Copy, Debug, PartialEq, Eq)]
+pub struct Misplaced {
+    /// What is wrong.
+    pub kind: MisplacedKind,
+    /// The number of the node.
+    pub node: NodeId,
+}
+
+/// The first node outside erased code that stands where it may not, where a node comes before those in it. Of several
+/// kinds at one node it is the first in their order. What is erased as a whole may be misplaced itself, and nothing in
+/// it is.
+pub fn first_misplaced(program: &Node) -> Option<Misplaced>
+    ensures { option_map misplaced_view result ≡ misplaced (node_doc program.now) }
+{
+    first_in(&Misplacements, program, Seat::Other)
+}
+
+/// The search for such nodes.
+#[derive(Clone, Copy)]
+struct Misplacements;
+
+impl Search for Misplacements {
+    type State = Seat;
+
+    type Found = Misplaced;
+
+    ghost Seen = { Misplacement };
+
+    ghost view = { misplaced_view };
+
+    ghost sought = { λ _. sought };
+
+    fn visit(&self, node: &Node, seat: Seat) -> Visit<Misplaced, Seat> {
+        Visit {
+            found: misplaced_at(seat, node),
+            inside: if is_dropped(node) {
+                Inside::Skipped
+            } else {
+                Inside::ByField(seat)
+            },
+        }
+    }
+
+    fn in_field(&self, _seat: Seat, kind: Kind, row: &Row) -> Option<Seat> {
+        Some(seat_of(kind, row))
+    }
+}
+
+/// How the node itself is misplaced in that seat.
+fn misplaced_at(seat: Seat, node: &Node) -> Option<Misplaced>
+    ensures { option_map misplaced_view result
+        ≡ misplaced_at seat node.now.kind node.now.id.0 (docs_in node.now.parts.items) }
+{
+    let kind = kind_at(seat, node)?;
+    Some(Misplaced {
+        kind,
+        node: node.id,
+    })
+}
+
+/// The first kind in which it is misplaced there.
+fn kind_at(seat: Seat, node: &Node) -> Option<MisplacedKind>
+    ensures { result
+        ≡ find (is_misplaced seat node.now.kind (docs_in node.now.parts.items)) misplaced_kinds }
+{
+    misplaced_kinds()
+        .iter()
+        .copied()
+        .find(|kind| is_misplaced(*kind, seat, node))
+}

@@ -1,3 +1,0 @@
-pub mod Differences
-pub mod Numbers
-pub mod Sameness

@@ -1,9 +1,0 @@
--- The items so far are numbered, and those that are left are as they were.
-use Rattle.std.proofs.Common.{◌≡◌, [], map, string_bytes}
-use Rattle.oxt_item.proofs.Numbers.{so_far}
-use Rattle.oxt_item.specs.Entry.{entries}
-use Rattle.oxt_item.specs.Tags.{numbered}
-use Rattle.oxt_item.proofs.tags.number_tags.Given as goal
-
-abbrev pub invariant-loop-i : goal.invariant-loop-i
-invariant-loop-i l = numbered [] (entries l.initial.items.items) ≡ so_far l.i l.items.items (map string_bytes l.met.keys)

@@ -1,4 +1,0 @@
-pub mod Compare
-pub mod Entry
-pub mod ItemKinds
-pub mod Tags

@@ -1,3 +1,0 @@
-pub mod Jsx
-pub mod Kept
-pub mod Names

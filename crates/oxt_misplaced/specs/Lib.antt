@@ -1,3 +1,0 @@
-pub mod Misplaced
-pub mod Seats
-pub mod Views

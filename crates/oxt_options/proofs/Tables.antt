@@ -1,0 +1,51 @@
+-- Tables of constants, as contracts see them.
+use denote.Ref.{Bor}
+use Rattle.std.proofs.Common.{◌≡◌, refl, sym, ap, ◌∙◌, ℕ, List, [], ◌∷◌, Bool, true, false, cond, nat_eq, Option, None, Some, option_map}
+use Rattle.std.specs.Map.{lookup, update, update_all}
+use Rattle.std.specs.Option.{option_copied, option_or}
+use Rattle.oxt_options.specs.Facts.{constant_at, last_constant}
+use Rattle.oxt_options.specs.Lists.{by_number, constants_in}
+use Rattle.oxt_options.specs.Seen.{constants_of}
+use Rattle.oxt_names.specs.Constant.{Constant, constant_view}
+use Rattle.oxt_names.specs.declared.constant.ConstantValue.{ConstantValue}
+use Rattle.oxt_tree.specs.declared.ids.NodeId.{NodeId}
+
+-- a look-up among views is the view of the look-up
+pub constant_found : (es : List (ℕ × ConstantValue)) (n : ℕ) → option_map constant_view (lookup (nat_eq n) es) ≡ constant_at (constants_of es) n
+constant_found [] n = refl
+constant_found (e ∷ es) n = by (nat_eq n e.0) (constant_found es n)
+  where
+    by : (b : Bool) → option_map constant_view (lookup (nat_eq n) es) ≡ constant_at (constants_of es) n
+        → option_map constant_view (cond b (Some e.1) (lookup (nat_eq n) es)) ≡ cond b (Some (constant_view e.1)) (constant_at (constants_of es) n)
+    by true rest = refl
+    by false rest = rest
+
+-- the constant that a table lends, as contracts see it
+pub constant_lent : (o : Option (Bor ConstantValue)) → option_map (λ (v : Bor ConstantValue). constant_view v.now) o ≡ option_map constant_view (option_copied o)
+constant_lent None = refl
+constant_lent (Some v) = refl
+
+-- one more constant over those that stood
+one_over : (o : Option Constant) (b : Bool) (v : ConstantValue) (p : Option ConstantValue)
+    → option_or o (option_map constant_view (cond b (Some v) p)) ≡ option_or (option_or o (cond b (Some (constant_view v)) None)) (option_map constant_view p)
+one_over (Some w) b v p = refl
+one_over None true v p = refl
+one_over None false v p = refl
+
+-- constants put in turn over those that stood
+all_over : (cs : List (NodeId × ConstantValue)) (f : ℕ → Option ConstantValue) (n : ℕ)
+    → option_map constant_view (update_all nat_eq f (by_number cs) n) ≡ option_or (last_constant (constants_in cs) n) (option_map constant_view (f n))
+all_over [] f n = refl
+all_over (c ∷ cs) f n =
+    all_over cs (update nat_eq f c.0.0 (Some c.1)) n ∙ one_over (last_constant (constants_in cs) n) (nat_eq c.0.0 n) c.1 (f n)
+
+or_none : (o : Option Constant) → option_or o None ≡ o
+or_none (Some w) = refl
+or_none None = refl
+
+-- A table into which constants were put in turn has the last of each node.
+pub all_put : (cs : List (NodeId × ConstantValue)) (es : List (ℕ × ConstantValue))
+    → ((n : ℕ) → lookup (nat_eq n) es ≡ update_all nat_eq (λ _. None) (by_number cs) n)
+    → (n : ℕ) → constant_at (constants_of es) n ≡ last_constant (constants_in cs) n
+all_put cs es put n =
+    sym (constant_found es n) ∙ ap (option_map constant_view) (put n) ∙ all_over cs (λ _. None) n ∙ or_none (last_constant (constants_in cs) n)

@@ -1,0 +1,40 @@
+-- What is known of the nodes of a program, by their numbers.
+use Rattle.std.specs.Prelude.{◌≡◌, ℕ, List, [], ◌∷◌, Bool, nat_eq, if◌then◌else◌, Option, None, Some}
+use Rattle.std.specs.List.{list_any}
+use Rattle.std.specs.Map.{lookup}
+use Rattle.std.specs.Option.{option_or}
+use Rattle.oxt_names.specs.Constant.{Constant}
+
+-- the specifiers that are kept, the blocks that are first, the blocks that are dropped, the expressions
+-- that are inlined with their constants, and the references to names that nothing writes to
+pub record Facts : Type 0 where
+  pub kept : List ℕ
+  pub first : List ℕ
+  pub dropped : List ℕ
+  pub inlined : List (ℕ × Constant)
+  pub never_written : List ℕ
+
+-- nothing is known
+abbrev pub no_facts : Facts
+no_facts = record { kept = []; first = []; dropped = []; inlined = []; never_written = [] }
+
+-- the number is one of the list
+abbrev pub is_in : List ℕ → ℕ → Bool
+is_in ns n = list_any (nat_eq n) ns
+
+-- the constant that the list has for the number
+abbrev pub constant_at : List (ℕ × Constant) → ℕ → Option Constant
+constant_at cs n = lookup (nat_eq n) cs
+
+-- the last constant that a list has for the number, where it may have several
+abbrev pub last_constant : List (ℕ × Constant) → ℕ → Option Constant
+last_constant [] n = None
+last_constant (c ∷ cs) n = option_or (last_constant cs n) (if nat_eq c.0 n then Some c.1 else None)
+
+-- of each node the one knows what the other has in its lists
+pub record Answers (known listed : Facts) : Type 0 where
+  pub kept : (n : ℕ) → is_in known.kept n ≡ is_in listed.kept n
+  pub first : (n : ℕ) → is_in known.first n ≡ is_in listed.first n
+  pub dropped : (n : ℕ) → is_in known.dropped n ≡ is_in listed.dropped n
+  pub inlined : (n : ℕ) → constant_at known.inlined n ≡ last_constant listed.inlined n
+  pub never_written : (n : ℕ) → is_in known.never_written n ≡ is_in listed.never_written n

@@ -1,0 +1,38 @@
+//! The lists of which a plan is made.
+ghost use Rattle.std.specs.Prelude.{◌≡◌};
+ghost use Rattle.oxt_options.specs.Facts.{no_facts};
+ghost use Rattle.oxt_options.specs.Lists.{facts_in};
+
+use oxt_names::constant::ConstantValue;
+use oxt_tree::ids::NodeId;
+use std::alloc::Global;
+
+/// The lists of which a plan is made, in any order.
+#[derive(Drop)]
+pub struct PlanLists {
+    /// Import specifiers, `import =` and export specifiers that are kept.
+    pub kept: Vec<NodeId>,
+    /// Blocks of an enum or a namespace before which nothing of the name emits code.
+    pub first: Vec<NodeId>,
+    /// Blocks of enums that are dropped.
+    pub dropped: Vec<NodeId>,
+    /// Expressions that are inlined, with their constants.
+    pub inlined: Vec<(NodeId, ConstantValue)>,
+    /// References to names that nothing writes to.
+    pub never_written: Vec<NodeId>,
+}
+
+impl PlanLists {
+    /// Empty lists.
+    pub fn empty(alloc: Global) -> PlanLists
+        ensures { facts_in result ≡ no_facts }
+    {
+        PlanLists {
+            kept: Vec::new(alloc),
+            first: Vec::new(alloc),
+            dropped: Vec::new(alloc),
+            inlined: Vec::new(alloc),
+            never_written: Vec::new(alloc),
+        }
+    }
+}

@@ -1,4 +1,0 @@
-//! Where a node stands in a tree.
-#![tactic(auto)]
-
-pub mod place;

@@ -1,3 +1,0 @@
-pub mod Facts
-pub mod Lists
-pub mod Seen

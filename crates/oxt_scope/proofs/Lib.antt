@@ -1,3 +1,0 @@
-pub mod OwnerLoops
-pub mod Stacks
-pub mod Tables

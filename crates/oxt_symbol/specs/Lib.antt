@@ -1,4 +1,0 @@
-pub mod Constant
-pub mod Flags
-pub mod Integer
-pub mod Operators

@@ -1,5 +1,0 @@
-pub mod Collected
-pub mod Decisions
-pub mod Kept
-pub mod Plainly
-pub mod Remainders

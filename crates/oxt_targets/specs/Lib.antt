@@ -1,3 +1,0 @@
-pub mod Beside
-pub mod Laws
-pub mod Targets

@@ -1,0 +1,144 @@
+//! What is told of the imports and exports of a source.
+ghost use Rattle.std.specs.Prelude.{◌≡◌, ◌∷◌, [], IfOk, OnOk, codes, if◌then◌else◌};
+ghost use Rattle.oxt_facts.specs.Told.{gone};
+ghost use Rattle.oxt_options.specs.Facts.{is_in};
+ghost use Rattle.oxt_told.specs.Modules.{list_told, specifier_told, specifiers_told, statement_told, statements_told, told_of_modules};
+ghost use Rattle.oxt_told.specs.Source.{all_told};
+ghost use Rattle.oxt_tree.specs.Fields.{elements, named};
+ghost use Rattle.oxt_tree.specs.View.{docs_in, node_doc, part_doc};
+
+use oxt_facts::told::{Told, ToldNodes};
+use oxt_modules::removed::{is_listing, loses_all, node_is_removed};
+use oxt_options::plan::Plan;
+use oxt_tree::ids::{NodeId, OutOfMemory};
+use oxt_tree::tree::{Node, Part};
+use std::alloc::Global;
+
+/// What is told of the imports and exports of the program, whose specifiers are kept as the plan says: which of these
+/// statements are removed, which specifiers of the others are not kept, and which imports lose all of them. With
+/// `only_remove_type_imports` these imports stay.
+///
+/// # Errors
+///
+/// Fails only where memory runs out.
+pub fn modules_told(
+    alloc: Global,
+    program: &Node,
+    plan: &Plan,
+    only_remove_type_imports: bool,
+) -> Result<ToldNodes, OutOfMemory>
+    ensures { IfOk result (λ told. told
+        ≡ told_of_modules (is_in plan.now.kept) only_remove_type_imports (node_doc program.now)) }
+{
+    let mut told = ToldNodes::new(alloc);
+    match tell_statements(
+        plan,
+        only_remove_type_imports,
+        program.list("body"),
+        &mut told,
+    ) {
+        Ok(()) => Ok(told),
+        Err(fault) => Err(fault),
+    }
+}
+
+/// Tells of the statements.
+#[tactic(auto, using(crate::proofs::Loops::statement_steps))]
+fn tell_statements(
+    plan: &Plan,
+    all: bool,
+    statements: &[Part],
+    told: &mut ToldNodes,
+) -> Result<(), OutOfMemory>
+    ensures { OnOk result (told.new
+        ≡ all_told told.old (statements_told (is_in plan.now.kept) all (docs_in statements.now))) }
+{
+    for statement in statements {
+        tell_statement(plan, all, statement, told)?;
+    }
+    Ok(())
+}
+
+/// Tells of the statement.
+fn tell_statement(
+    plan: &Plan,
+    all: bool,
+    statement: &Part,
+    told: &mut ToldNodes,
+) -> Result<(), OutOfMemory>
+    ensures { OnOk result (told.new
+        ≡ all_told told.old (statement_told (is_in plan.now.kept) all (part_doc statement.now))) }
+{
+    match statement {
+        Part::Node(node) => tell_node(plan, all, node, told),
+        _ => Ok(()),
+    }
+}
+
+/// Tells of the statement that the node is.
+fn tell_node(plan: &Plan, all: bool, node: &Node, told: &mut ToldNodes) -> Result<(), OutOfMemory>
+    ensures { OnOk result (told.new
+        ≡ all_told told.old (statement_told (is_in plan.now.kept) all (node_doc node.now))) }
+{
+    if node_is_removed(plan, all, node) {
+        told.tell(node.id, Told::Gone)
+    } else if is_listing(node.kind) {
+        tell_list(plan, node.id, node.list("specifiers"), told)
+    } else {
+        Ok(())
+    }
+}
+
+/// Tells of an import or an export with that number and these specifiers, which stays.
+fn tell_list(
+    plan: &Plan,
+    statement: NodeId,
+    specifiers: &[Part],
+    told: &mut ToldNodes,
+) -> Result<(), OutOfMemory>
+    ensures { OnOk result (told.new
+        ≡ all_told told.old (list_told (is_in plan.now.kept) statement.0 (docs_in specifiers.now))) }
+{
+    if loses_all(plan, specifiers) {
+        told.tell(statement, Told::Listless)?;
+    }
+    tell_specifiers(plan, specifiers, told)
+}
+
+/// Tells of the specifiers.
+#[tactic(auto, using(crate::proofs::Loops::specifier_steps))]
+fn tell_specifiers(
+    plan: &Plan,
+    specifiers: &[Part],
+    told: &mut ToldNodes,
+) -> Result<(), OutOfMemory>
+    ensures { OnOk result (told.new
+        ≡ all_told told.old (specifiers_told (is_in plan.now.kept) (docs_in specifiers.now))) }
+{
+    for specifier in specifiers {
+        tell_specifier(plan, specifier, told)?;
+    }
+    Ok(())
+}
+
+/// Tells of the specifier, if it is not kept.
+fn tell_specifier(plan: &Plan, specifier: &Part, told: &mut ToldNodes) -> Result<(), OutOfMemory>
+    ensures { OnOk result (told.new
+        ≡ all_told told.old (specifier_told (is_in plan.now.kept) (part_doc specifier.now))) }
+{
+    match specifier {
+        Part::Node(node) => tell_unkept(plan, node.id, told),
+        _ => Ok(()),
+    }
+}
+
+/// Tells that the specifier of that number does nothing, if it is not kept.
+fn tell_unkept(plan: &Plan, specifier: NodeId, told: &mut ToldNodes) -> Result<(), OutOfMemory>
+    ensures { OnOk result (told.new
+        ≡ all_told told.old (if is_in plan.now.kept specifier.0 then [] else (specifier.0, gone) ∷ [])) }
+{
+    if plan.keeps(specifier) {
+        return Ok(());
+    }
+    told.tell(specifier, Told::Gone)
+}

@@ -1,0 +1,84 @@
+//! What is done to a program between its check and its test.
+ghost use Rattle.std.specs.Prelude.{OnOk};
+ghost use Rattle.oxt_options.specs.Options.{transform_view};
+ghost use Rattle.oxt_transform.specs.Plain.{ComesBack};
+ghost use Rattle.oxt_tree.specs.View.{node_doc};
+
+use crate::plain_source::{is_left_alone, say_javascript};
+use crate::typescript::lower_program;
+use oxt_ctx::context::TraverseCtx;
+use oxt_modules::retain::retain_modules;
+use oxt_options::TransformOptions;
+use oxt_options::plan::Plan;
+use oxt_options::state::TransformState;
+use oxt_scoping::scoping::Scoping;
+use oxt_tree::ids::OutOfMemory;
+use oxt_tree::tree::Program;
+use std::alloc::Global;
+
+/// What the passes know of a source.
+#[derive(Drop)]
+pub(crate) struct Tables {
+    pub(crate) scoping: Scoping,
+    pub(crate) plan: Plan,
+}
+
+/// Lowers the program: removes what of its imports and exports stands for nothing at run time, and walks over it with
+/// the passes. Of a plain program that the options leave as it is, only the language is set.
+///
+/// # Errors
+///
+/// `OutOfMemory` for want of memory or of numbers alone. The program may then only be dropped.
+pub(crate) fn rewrite(
+    alloc: Global,
+    program: &mut Program,
+    options: &TransformOptions,
+    tables: Tables,
+) -> Result<(), OutOfMemory>
+    ensures { OnOk result
+        (ComesBack (transform_view options.now) (node_doc program.old.root) (node_doc program.new.root)) }
+{
+    if is_left_alone(options, &program.root) {
+        say_javascript(&mut program.root);
+        return Ok(());
+    }
+    retain_and_walk(alloc, program, options, tables)
+}
+
+/// Removes what of the imports and exports stands for nothing at run time, and runs the passes over the program, if it
+/// is no file of definitions.
+fn retain_and_walk(
+    alloc: Global,
+    program: &mut Program,
+    options: &TransformOptions,
+    tables: Tables,
+) -> Result<(), OutOfMemory> {
+    retain_modules(
+        program,
+        &tables.plan,
+        options.typescript.only_remove_type_imports,
+    )?;
+    if program.root.is_definition_file() {
+        return Ok(());
+    }
+    walk(alloc, program, options, tables)
+}
+
+/// Walks over the program with the passes.
+fn walk(
+    alloc: Global,
+    program: &mut Program,
+    options: &TransformOptions,
+    tables: Tables,
+) -> Result<(), OutOfMemory> {
+    let Tables { scoping, plan } = tables;
+    let state = TransformState::new(options, false);
+    let mut ctx = TraverseCtx::new(alloc, scoping, plan, state, program.ids);
+    let walked = lower_program(&mut program.root, &mut ctx);
+    program.ids = ctx.ids;
+    leave(ctx);
+    walked
+}
+
+/// Drops the context of a walk.
+fn leave(_ctx: TraverseCtx) {}

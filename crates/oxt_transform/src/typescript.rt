@@ -1,0 +1,62 @@
+//! The TypeScript passes as one.
+ghost use Rattle.std.specs.Prelude.{OnOk};
+ghost use Rattle.oxt_traverse.specs.Level.{IsLevel};
+
+use oxt_ctx::context::TraverseCtx;
+use oxt_erase::pass::TypeScriptAnnotations;
+use oxt_traverse::dispatch::{run_at_node, run_at_statements};
+use oxt_traverse::hook::Hook;
+use oxt_traverse::traverse::Traverse;
+use oxt_tree::ids::OutOfMemory;
+use oxt_tree::tree::{Node, Part};
+use oxt_walk::walk::walk_program;
+
+/// Lowers the program by the TypeScript passes, in one walk.
+///
+/// `program` is a node of kind `Program`.
+///
+/// # Errors
+///
+/// `OutOfMemory` for want of memory or of numbers alone. The tree and the context may then only be
+/// dropped.
+pub fn lower_program(program: &mut Node, ctx: &mut TraverseCtx) -> Result<(), OutOfMemory>
+    ensures level { OnOk result (IsLevel ctx.old ctx.new) }
+{
+    walk_program(&mut TypeScript::new(), program, ctx)
+}
+
+/// The TypeScript passes: at each hook those of the passes that have it, in their order. So far
+/// there is one, which erases types.
+#[derive(Clone, Copy, Debug)]
+pub struct TypeScript {
+    annotations: TypeScriptAnnotations,
+}
+
+impl TypeScript {
+    /// The passes.
+    pub fn new() -> TypeScript {
+        TypeScript {
+            annotations: TypeScriptAnnotations::new(),
+        }
+    }
+}
+
+impl Traverse for TypeScript {
+    fn at_node(
+        &mut self,
+        hook: Hook,
+        node: &mut Node,
+        ctx: &mut TraverseCtx,
+    ) -> Result<(), OutOfMemory> {
+        run_at_node(&mut self.annotations, hook, node, ctx)
+    }
+
+    fn at_statements(
+        &mut self,
+        hook: Hook,
+        statements: &mut Vec<Part>,
+        ctx: &mut TraverseCtx,
+    ) -> Result<(), OutOfMemory> {
+        run_at_statements(&mut self.annotations, hook, statements, ctx)
+    }
+}

@@ -1,4 +1,0 @@
-//! The TypeScript passes, composed.
-#![tactic(auto)]
-
-pub mod typescript;

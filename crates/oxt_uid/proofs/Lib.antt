@@ -1,4 +1,0 @@
-pub mod Additions
-pub mod Candidates
-pub mod Tables
-pub mod Trims

@@ -1,4 +1,0 @@
-//! Plain JavaScript comes back as it is.
-#![tactic(auto)]
-
-pub mod laws;
