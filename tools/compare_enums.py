@@ -6,9 +6,9 @@
     tools/compare_enums.py ORACLE CASES --enums SEED COUNT    random programs of enums alone
 
 ORACLE is the folder of the reading, a Python package `oxtref` that is no part of this repository. CASES is the built
-program `oxt_cases`. Its tables `levels`, `first-blocks`, `clash`, `enum-faults` and `told` are compared. What the reading
-takes for no tree is passed over. Prints a line for each table that differs, then the counts. The status is 1 if there is
-a difference, and else 0.
+program `oxt_cases`. Its tables `levels`, `first-blocks`, `clash` and `enum-faults` are compared; what is told of enums is
+compared with the words in which it is read (`compare_words.py`). What the reading takes for no tree is passed over. Prints
+a line for each table that differs, then the counts. The status is 1 if there is a difference, and else 0.
 """
 import importlib
 
@@ -17,7 +17,6 @@ from compare_constants import enum_trees
 from trees import Differences, run, wanted_of, words_and_cases
 
 ELEMENTS = ("JSXOpeningElement", "JSXClosingElement", "JSXMemberExpression")
-CALLS = ("CallExpression", "NewExpression")
 
 
 def or_dash(numbers):
@@ -30,8 +29,7 @@ class Reading(trees.Reading):
 
     def __init__(self, folder):
         super().__init__(folder)
-        self.lists, self.faults, self.word, self.options = (
-            importlib.import_module(f"oxtref.{name}") for name in ("lists", "faults", "word", "options"))
+        self.faults, self.options = (importlib.import_module(f"oxtref.{name}") for name in ("faults", "options"))
 
     def lines(self, text):
         """The lines of each table, as `oxt_cases` prints them; None where it is no tree."""
@@ -41,7 +39,7 @@ class Reading(trees.Reading):
         faults = self.faults.Faults(root, self.options.Options())
         return {
             "levels": self.levels(faults), "first-blocks": self.first_blocks(faults), "clash": self.clash(faults),
-            "enum-faults": self.enum_faults(faults), "told": self.told(faults.src),
+            "enum-faults": self.enum_faults(faults),
         }
 
     @staticmethod
@@ -87,29 +85,6 @@ class Reading(trees.Reading):
             if use.owner and use.owner.member and not use.erased and not use.intype:
                 if use.write or use.node.parent.kind in ELEMENTS:
                     yield use.node.num
-
-    def told(self, source):
-        lines = [(use.node.num, f"bare {use.owner.scope.enum.name}") for use in source.sc.refs
-                 if use.owner and use.owner.member and not use.erased and not use.intype]
-        for node in source.root.walk():
-            if node.kind == "TSEnumDeclaration" and not source.er(node):
-                lines += self.told_of_block(source, node)
-        return [f"{number} {line}" for number, line in sorted(lines)]
-
-    def told_of_block(self, source, block):
-        name = source.sc.group_of[id(block.id)].name
-        is_top = source.sc.at[id(block.id)] is source.sc.top
-        is_pure = not any(member.initializer and member.initializer.kind in CALLS for member in block.body.members)
-        says = [(id(block) in source.first, " first"), (is_top, " top"), (is_pure, " pure")]
-        yield block.num, f"block {name}" + "".join(word for holds, word in says if holds)
-        last = None
-        for member in block.body.members:
-            own, constant, written = self.scopes.member_name(member), source.k.value(member), member.initializer
-            value = f'"{constant}"' if isinstance(constant, str) else str(constant) if constant is not None else \
-                "written" if written else f"after {last}"
-            is_text = isinstance(constant, str) or (written is not None and self.word.text_by_syntax(written))
-            yield member.num, f"member {name} {own} {value}" + ("" if is_text else " reversed")
-            last = own
 
 
 def main():

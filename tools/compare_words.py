@@ -115,7 +115,7 @@ class Comparison:
             return None
         self.counts["trees"] += 1
         self.counts["nodes"] += nodes
-        self.word(f"{name} (source)", "word", source, expected[0])
+        self.word(f"{name} (source)", "told-word", source, expected[0])
         self.word(f"{name} (output)", "pair", pair_of(source, run.stdout), expected[1])
         return None
 

@@ -1,9 +1,11 @@
-"""Plants bugs in the pass that erases types, one at a time, in a copy of the repository, and tells what the program then
-answers of a tree: each has to end in `uncertified`, with nothing written. Nothing is proved of the copy: `rt try` runs it.
+"""Plants bugs in the passes, one at a time, in a copy of the repository, and tells what the program then answers of a
+tree: each has to end in `uncertified`, with nothing written. Nothing is proved of the copy: `rt try` runs it.
 
-    python3 tools/plant.py [TREE]
+    python3 tools/plant.py
 
-The number of the bug is where the program's span starts, so that one build serves for all; 0 plants none."""
+The number of the bug is where the program's span starts, so that one build serves for all; 0 plants none. Bugs of the pass
+that erases types stand in place of one of its hooks, on examples/forms.json. Those of the pass that lowers enums leave out
+one of its hooks, or put something else at one place of what it has made, on examples/enums.json."""
 import json
 import re
 import shutil
@@ -13,12 +15,12 @@ import tempfile
 from pathlib import Path
 
 TOP = Path(__file__).resolve().parent.parent
-PASS = "crates/oxt_erase/src/pass.rt"
+FLAGS = ["--optimize-enums", "--optimize-const-enums"]
 NOTHING = "{}"
 GONE = "Part::List(Vec::new(*node.parts.allocator()))"
 
 # The hook, and what it does in place of its own work.
-BUGS = [
+ERASER_BUGS = [
     ("program", NOTHING),
     ("program", "clear_types(node)?; node.parts[0] = Part::Word(Word::Script);"),
     ("statements", NOTHING),
@@ -49,57 +51,206 @@ BUGS = [
     ("catch_parameter", NOTHING),
 ]
 
+# Hooks of the pass that lowers enums that do nothing: nothing is lowered, nothing inlined, nothing dropped.
+LEFT_OUT = ["EnterStatement", "EnterExpression", "ExitStatements"]
 
-def planted(text):
-    """The pass with all bugs in it, by number."""
-    text = text.replace("pub struct TypeScriptAnnotations;", "pub struct TypeScriptAnnotations { bug: u32 }")
-    text = text.replace("        TypeScriptAnnotations\n    }", "        TypeScriptAnnotations { bug: 0 }\n    }")
-    text = text.replace("use oxt_tree::tree::{Node, Part};", "use oxt_grammar::word::Word;\nuse oxt_tree::tree::{Node, Part};")
-    text = at_begin(text, "at_node", "if hook == Hook::EnterProgram { self.bug = node.span.start; }" + bugs("at_node"))
-    return at_begin(text, "at_statements", bugs("at_statements"))
-
-
-def bugs(method):
-    """The lines of those bugs that stand in the method."""
-    return "".join(
-        f" if self.bug == {number} && hook == Hook::Enter{hook.title().replace('_', '')} {{ {wrong} return Ok(()); }}"
-        for number, (hook, wrong) in enumerate(BUGS, 1)
-        if (hook == "statements") == (method == "at_statements")
-    )
+# The calls of a first block and of an exported one, and the statements in their functions.
+FIRST, EXPORTED = "body.0.declarations.0.init", "body.1.declaration.declarations.0.init"
+IN_FIRST, IN_EXPORTED = f"{FIRST}.callee.body.statements", f"{EXPORTED}.callee.body.statements"
+NEW_OBJECT = "Part::Node(empty_object(alloc, ids)?)"
 
 
-def at_begin(text, method, lines):
+def text(spelling):
+    return f'Part::Text(Name::new(alloc, "{spelling}")?)'
+
+
+def name(spelling):
+    return f'Part::Node(reference(alloc, &Name::new(alloc, "{spelling}")?, ids)?)'
+
+
+# A place in the tree that was lowered, and what comes there in place of `old`.
+ENUM_BUGS = [
+    ("body.0.kind", "Part::Word(Word::Let)"),
+    ("body.4.body.0.kind", "Part::Word(Word::Var)"),
+    (f"{FIRST}.pure", "Part::Flag(true)"),
+    (f"{EXPORTED}.pure", "Part::Flag(false)"),
+    (f"{FIRST}.arguments.0", NEW_OBJECT),
+    (f"{EXPORTED}.arguments.0", name("X")),
+    (f"{FIRST}.callee.params.items.0.pattern.name", text("X")),
+    (f"{IN_FIRST}.0.expression", 'inside(inside(old, "left"), "expression")'),
+    (f"{IN_FIRST}.0.expression.left.expression.right.value", "Part::Number(1)"),
+    (f"{IN_FIRST}.1.expression", 'looked_up(alloc, old, ids)?'),
+    (f"{IN_FIRST}.1.expression.left.expression.value", text("c")),
+    (f"{IN_FIRST}.3.expression.left.expression.right.left", name("c")),
+    (f"{IN_FIRST}.3.expression.left.expression.right.left.object.name", text("X")),
+    (f"{IN_FIRST}.4.expression.left.expression.right.right.expression.value", text("c")),
+    (IN_FIRST, "without_last(old)"),
+    (IN_EXPORTED, "without_first(old)"),
+    (IN_EXPORTED, "first_later(old)?"),
+    ("body.1", 'inside(old, "declaration")'),
+    ("body.2", "declared(alloc, old, ids)?"),
+    ("body.2.expression", 'inside(old, "right")'),
+    ("body.2.expression.left.name", text("A")),
+    ("body.2.expression.right.arguments.0", NEW_OBJECT),
+    ("body.3.expression.arguments.0.value", "Part::Number(1)"),
+    ("body.3.expression.arguments.1", 'inside(old, "argument")'),
+    ("body.3.expression.arguments.2.value", text("m")),
+    ("body.4.body", "without_first(old)"),
+    ("body.5.declarations.0.init.properties.0.value.value", "Part::Number(1)"),
+]
+
+# What they are written with.
+HELPERS = """
+fn field<'a>(node: &'a mut Node, name: &str) -> &'a mut Part {
+    match place_of(node.kind.rows(), name) { Some(place) => &mut node.parts[place], None => unreachable!() }
+}
+fn child<'a>(part: &'a mut Part, name: &str) -> &'a mut Part {
+    match part { Part::Node(node) => field(node, name), _ => unreachable!() }
+}
+fn item<'a>(part: &'a mut Part, place: usize) -> &'a mut Part {
+    match part { Part::List(items) => &mut items[place], _ => unreachable!() }
+}
+fn inside(part: Part, name: &str) -> Part { let mut part = part; child(&mut part, name).take() }
+fn node_in(part: Part) -> Node { match part { Part::Node(node) => node, _ => unreachable!() } }
+fn without_last(part: Part) -> Part {
+    match part { Part::List(mut items) => { let _last = items.pop(); Part::List(items) } other => other }
+}
+fn without_first(part: Part) -> Part {
+    match part { Part::List(mut items) => { let _first = items.remove(0); Part::List(items) } other => other }
+}
+fn first_later(part: Part) -> Result<Part, OutOfMemory> {
+    match part {
+        Part::List(mut items) => { let first = items.remove(0); items.insert(1, first)?; Ok(Part::List(items)) }
+        other => Ok(other),
+    }
+}
+fn looked_up(alloc: Global, put: Part, ids: &mut NodeIds) -> Result<Part, OutOfMemory> {
+    let object = reference(alloc, &Name::new(alloc, "A")?, ids)?;
+    let target = computed(alloc, object, node_in(put), ids)?;
+    let text = string_literal(alloc, &Name::new(alloc, "b")?, ids)?;
+    Ok(Part::Node(assignment(alloc, target, text, ids)?))
+}
+fn declared(alloc: Global, put: Part, ids: &mut NodeIds) -> Result<Part, OutOfMemory> {
+    let value = node_in(inside(inside(put, "expression"), "right"));
+    Ok(Part::Node(enum_declaration(alloc, &Name::new(alloc, "X")?, true, value, ids)?))
+}
+"""
+IMPORTS = """use crate::block::enum_declaration;
+use crate::nodes::{assignment, computed, empty_object, reference, string_literal};
+use oxt_grammar::word::Word;
+use oxt_tree::fields::place_of;
+use oxt_tree::ids::NodeIds;
+use oxt_tree::name::Name;
+use std::alloc::Global;
+use crate::inline::inline_constant;"""
+COUNT = len(ERASER_BUGS) + len(LEFT_OUT) + len(ENUM_BUGS)
+NUMBERED = "if hook == Hook::EnterProgram { self.bug = node.span.start; }"
+
+
+def put(source, *changes):
+    """The text with each of these in place of what stands there once."""
+    for old, new in changes:
+        assert source.count(old) == 1, old
+        source = source.replace(old, new)
+    return source
+
+
+def at_begin(source, method, lines):
     """The lines at the begin of the method."""
-    begin = re.search(rf"fn {method}\(.*?\{{\n", text, re.S).end()
-    return f"{text[:begin]}        {lines}\n{text[begin:]}"
+    begin = re.search(rf"fn {method}\(.*?\{{\n", source, re.S).end()
+    return f"{source[:begin]}        {lines}\n{source[begin:]}"
 
 
-def answers(tree):
-    """What the program with the bugs answers of the tree: its line where it is not certified, the number, and the status."""
+def planted_eraser(source):
+    """The pass that erases types with its bugs in it, by number."""
+    source = put(source, ("pub struct TypeScriptAnnotations;", "pub struct TypeScriptAnnotations { bug: u32 }"),
+                 ("        TypeScriptAnnotations\n    }", "        TypeScriptAnnotations { bug: 0 }\n    }"),
+                 ("use oxt_tree::tree::{Node, Part};", "use oxt_grammar::word::Word;\nuse oxt_tree::tree::{Node, Part};"))
+    lines = {"at_node": NUMBERED, "at_statements": ""}
+    for number, (hook, wrong) in enumerate(ERASER_BUGS, 1):
+        entered = "Enter" + hook.title().replace("_", "")
+        method = "at_statements" if hook == "statements" else "at_node"
+        lines[method] += f" if self.bug == {number} && hook == Hook::{entered} {{ {wrong} return Ok(()); }}"
+    return at_begin(at_begin(source, "at_node", lines["at_node"]), "at_statements", lines["at_statements"])
+
+
+def place_of(path):
+    """The place in the tree, as the program reaches it."""
+    first, *steps = path.split(".")
+    place = f'field(node, "{first}")'
+    for step in steps:
+        place = f"item({place}, {step})" if step.isdigit() else f'child({place}, "{step}")'
+    return place
+
+
+def planted_enums(source):
+    """The pass that lowers enums with its bugs in it, by number."""
+    source = put(source, ("pub optimize_enums: bool,\n}", "pub optimize_enums: bool,\n    bug: u32,\n}"),
+                 ("            optimize_enums,\n        }", "            optimize_enums,\n            bug: 0,\n        }"),
+                 ("use crate::inline::inline_constant;", IMPORTS))
+    lines = {"at_node": NUMBERED, "at_statements": ""}
+    functions = HELPERS
+    for number, hook in enumerate(LEFT_OUT, len(ERASER_BUGS) + 1):
+        method = "at_statements" if hook.endswith("Statements") else "at_node"
+        lines[method] += f" if self.bug == {number} && hook == Hook::{hook} {{ return Ok(()); }}"
+    for number, (path, wrong) in enumerate(ENUM_BUGS, len(ERASER_BUGS) + len(LEFT_OUT) + 1):
+        functions += f"""fn bug_{number}(node: &mut Node, ids: &mut NodeIds) -> Result<(), OutOfMemory> {{
+    let alloc = *node.parts.allocator();
+    let place = {place_of(path)};
+    let old = place.take();
+    *place = {wrong};
+    Ok(())
+}}
+"""
+        lines["at_node"] += f" if self.bug == {number} && hook == Hook::ExitProgram {{ return bug_{number}(node, &mut ctx.ids); }}"
+    return at_begin(at_begin(source, "at_node", lines["at_node"]), "at_statements", lines["at_statements"]) + functions
+
+
+def published(source):
+    """The block of an enum, whose declaration a bug makes too."""
+    return put(source, ("\nfn enum_declaration(", "\npub fn enum_declaration("))
+
+
+PLANTED = {
+    "crates/oxt_erase/src/pass.rt": planted_eraser,
+    "crates/oxt_lower/src/pass.rt": planted_enums,
+    "crates/oxt_lower/src/block.rt": published,
+}
+
+
+def write_cases(folder):
+    """Writes the trees: for each bug one that has its form, and for none both."""
+    forms, enums = (json.loads((TOP / "examples" / f"{name}.json").read_text()) for name in ("forms", "enums"))
+    for number in range(COUNT + 1):
+        tree = forms if number <= len(ERASER_BUGS) else enums
+        (folder / f"{number:02}").write_text(json.dumps({**tree, "start": number}))
+    (folder / "00e").write_text(json.dumps(enums))
+
+
+def answers():
+    """What the program with the bugs answers: its line where it is not certified, the case, and the status."""
     with tempfile.TemporaryDirectory() as folder:
         copy = Path(folder, "copy")
         shutil.copytree(TOP, copy, ignore=shutil.ignore_patterns("out", ".git", "wip"))
-        source = copy / PASS
-        source.write_text(planted(source.read_text()))
+        for path, plant in PLANTED.items():
+            (copy / path).write_text(plant((copy / path).read_text()))
         cases = Path(folder, "cases")
         cases.mkdir()
-        for number in range(len(BUGS) + 1):
-            tree["start"] = number
-            (cases / f"{number:02}").write_text(json.dumps(tree))
-        call = ["rt", "try", "--cases", str(cases)]
+        write_cases(cases)
+        call = ["rt", "try", "--cases", str(cases), "--", *FLAGS]
         done = subprocess.run(call, cwd=copy / "crates/oxt", capture_output=True, text=True)
-        return re.findall(r"((?:uncertified .*\n)?)case=(\d+) run=ended status=(\d+) ", done.stderr)
+        found = re.findall(r"((?:uncertified .*\n)?)case=(\w+) run=ended status=(\d+) ", done.stderr)
+        return found or sys.exit(done.stdout[-2000:] + done.stderr[-2000:])
 
 
 def main():
-    path = sys.argv[1] if len(sys.argv) > 1 else TOP / "examples/forms.json"
-    told = answers(json.loads(Path(path).read_text()))
-    caught = sum(bool(line) and status == "2" for line, number, status in told if int(number))
-    passes = any(status == "0" and not line for line, number, status in told if not int(number))
-    for line, number, status in told:
-        print(f"bug {number}: status {status} {line.strip()}")
-    print(f"{caught} of {len(BUGS)} bugs are answered uncertified; without one the tree {'is lowered' if passes else 'is NOT lowered'}")
-    sys.exit(0 if passes and caught == len(BUGS) else 1)
+    told = answers()
+    caught = sum(bool(line) and status == "2" for line, case, status in told if case.strip("0e"))
+    passes = all(status == "0" and not line for line, case, status in told if not case.strip("0e"))
+    for line, case, status in told:
+        print(f"bug {case}: status {status} {line.strip()}")
+    print(f"{caught} of {COUNT} bugs are answered uncertified; without one the trees {'are lowered' if passes else 'are NOT lowered'}")
+    sys.exit(0 if passes and caught == COUNT else 1)
 
 
 if __name__ == "__main__":

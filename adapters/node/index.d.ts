@@ -44,9 +44,9 @@ export interface OxtOptions {
     allow_declare_fields?: boolean;
     /** false */
     remove_class_fields_without_initializer?: boolean;
-    /** false */
+    /** Whether members of a `const enum` become their constants; false. */
     optimize_const_enums?: boolean;
-    /** false */
+    /** Whether members of other enums do; false. */
     optimize_enums?: boolean;
     /** false */
     rewrite_import_extensions?: boolean | "rewrite" | "remove";

@@ -37,6 +37,15 @@ describe("what is lowered", NEEDS_PROGRAM, () => {
     assert.equal((await transform(source, { typescript: { only_remove_type_imports: true } })).code, source);
   });
 
+  test("an enum, and its members under an option", async () => {
+    const source = "enum E { A = 1, B = \"b\" }\nf(E.A, E.B);\n";
+    const lines = ["var E = /* @__PURE__ */ function (E) {", '  E[E["A"] = 1] = "A";', '  E["B"] = "b";', "  return E;", "}(E || {});", "f(E.A, E.B);", ""];
+    assert.equal((await transform(source)).code, lines.join("\n"));
+    assert.equal((await transform(source, { typescript: { optimize_enums: true } })).code, 'f(1, "b");\n');
+    assert.equal((await transform(source, { typescript: { optimize_const_enums: true } })).code, lines.join("\n"));
+    assert.equal((await transform(`const ${source}`, { typescript: { optimize_const_enums: true } })).code, 'f(1, "b");\n');
+  });
+
   test("what a diagnostic tells of is written without its type", async () => {
     const { code, diagnostics } = await transform("(f() as any)++;", { filename: "a.ts" });
     assert.equal(code, "f()++;\n");
@@ -64,6 +73,12 @@ describe("refusals name their place", NEEDS_PROGRAM, () => {
     ["class A { b(@c d) {} }", "misplaced decorator at a.ts:1:13"],
     [`x = ${"(".repeat(130)}1${")".repeat(130)};`, /^nested deeper than 127 levels at a\.ts:1:\d+$/],
     ["let a;\n{ interface a {} { declare let a; a; } }", /^captured a at a\.ts:2:\d+$/],
+    ["let A;\nenum A { B }", "misplaced merge at a.ts:2:1"],
+    ["enum A { B, A }", "misplaced enum at a.ts:1:13"],
+    ["enum A { B = 9007199254740991, C }", "wide at a.ts:1:32"],
+    ["function f() { enum A { B = arguments.length } }", "captured arguments at a.ts:1:29"],
+    ["enum A { B, C = ((A) => B)(1) }", "captured A at a.ts:1:25"],
+    ["let a;\nnamespace B { a; }", "unbuilt TSNamespaceDeclaration at a.ts:2:1"],
   ];
   for (const [source, message] of cases) {
     test(source.slice(0, 60), async () => {
@@ -77,14 +92,16 @@ describe("answers of a program", () => {
   const source = "let a;\nenum B {}\nclass C { constructor(d, private e) {} }\n";
   const body = [{ type: "TSEnumDeclaration", start: 7, body: { type: "TSEnumBody", start: 14, members: [] } }];
   const parameter = { type: "FormalParameter", start: 42, accessibility: "private" };
-  const tree = { type: "Program", start: 0, body: [...body, { type: "X", start: 17, items: [{ type: "FormalParameter", start: 39 }, parameter] }] };
+  const namespace = { type: "TSNamespaceDeclaration", start: 17 };
+  const tree = { type: "Program", start: 0, body: [...body, { type: "X", start: 17, items: [{ type: "FormalParameter", start: 39 }, parameter, namespace] }] };
   const question = new Question({ source, filename: "a.ts", tree, flags: ["--legacy"], binary: "oxt", isModule: false });
   const answer = (parts) => ({ status: 0, signal: null, out: "", err: "", ...parts });
   const cases = [
     [{ status: 2, err: "misplaced namespace /body/0\n" }, OxtRefusal, "misplaced namespace at a.ts:2:1"],
     [{ status: 2, err: "captured arguments /body/0/body\n" }, OxtRefusal, "captured arguments at a.ts:2:8"],
     [{ status: 2, err: "shape /body/0/body/members/3/id\n" }, OxtRefusal, "no tree of the grammar at a.ts:2:8"],
-    [{ status: 2, err: "unbuilt TSEnumDeclaration\n" }, OxtRefusal, "unbuilt TSEnumDeclaration at a.ts:2:1"],
+    [{ status: 2, err: "unbuilt TSNamespaceDeclaration\n" }, OxtRefusal, "unbuilt TSNamespaceDeclaration at a.ts:3:1"],
+    [{ status: 2, err: "misplaced merge /body/0\n" }, OxtRefusal, "misplaced merge at a.ts:2:1"],
     [{ status: 2, err: "unbuilt FormalParameter\n" }, OxtRefusal, "unbuilt FormalParameter at a.ts:3:26"],
     [{ status: 2, err: "wide 14..16\n" }, OxtRefusal, "wide at a.ts:2:8"],
     [{ status: 2, err: "uncertified plain /body/4\n" }, OxtRefusal, "uncertified plain /body/4 at a.ts:1:1"],

@@ -10,6 +10,7 @@ mod places;
 mod targets;
 mod texts;
 mod trees;
+mod visits;
 mod words;
 
 use crate::diagnostics::print_diagnostics;
@@ -19,6 +20,7 @@ use crate::places::print_places;
 use crate::targets::print_targets;
 use crate::texts::print_texts;
 use crate::trees::print_trees;
+use crate::visits::print_visits;
 use crate::words::print_words;
 use anyhow::Result;
 use oxt_io::ReaderSource;
@@ -46,5 +48,6 @@ fn print_all(alloc: Global, table: &Table, lines: &mut Lines) -> std::result::Re
     print_trees(alloc, table, lines)?;
     print_texts(alloc, table, lines)?;
     print_targets(alloc, table, lines)?;
-    print_places(alloc, table, lines)
+    print_places(alloc, table, lines)?;
+    print_visits(alloc, table, lines)
 }

@@ -1,18 +1,25 @@
 //! Items of effect words.
 
 use oxt_facts::compare::first_difference;
+use oxt_facts::facts::Facts;
+use oxt_facts::groups::number_groups;
 use oxt_facts::item::{Atom, Binding, Item, ItemKind};
+use oxt_facts::told::ToldBlock;
 use oxt_grammar::kind::Kind;
 use oxt_grammar::word::Word;
 use oxt_lines::lines::Lines;
 use oxt_lines::stopped::Stopped;
 use oxt_tree::name::Name;
 use std::alloc::Global;
+use std::slice;
 
 /// The first differences of words.
 pub fn print_words(alloc: Global, lines: &mut Lines) -> Result<(), Stopped> {
     differences(alloc, lines)?;
-    word_and_text(alloc, lines)
+    word_and_text(alloc, lines)?;
+    numbered(alloc, lines)?;
+    owners_alone(alloc, lines)?;
+    inside_block(alloc, lines)
 }
 
 fn item(alloc: Global, kind: ItemKind, spelling: Atom, detail: Atom) -> Result<Item, Stopped> {
@@ -21,6 +28,7 @@ fn item(alloc: Global, kind: ItemKind, spelling: Atom, detail: Atom) -> Result<I
         kind,
         spelling,
         details,
+        group: None,
     })
 }
 
@@ -118,4 +126,82 @@ fn compared(alloc: Global, first: Item, second: Item, lines: &mut Lines) -> Resu
     let second = vec![in alloc; second]?;
     let found = place(first.as_slice(), second.as_slice());
     lines.options("the text js beside the word js", &[found])
+}
+
+/// `let x` of that group.
+fn bind_of(alloc: Global, group: u64) -> Result<Item, Stopped> {
+    let mut item = bind(alloc, "x")?;
+    item.group = Some(group);
+    Ok(item)
+}
+
+/// Declarations of the groups 9 and 4, and the first of them again.
+fn declared(alloc: Global) -> Result<Vec<Item>, Stopped> {
+    let first = bind_of(alloc, 9)?;
+    let second = bind_of(alloc, 4)?;
+    let third = bind_of(alloc, 9)?;
+    Ok(vec![in alloc; first, second, third]?)
+}
+
+fn numbered(alloc: Global, lines: &mut Lines) -> Result<(), Stopped> {
+    let mut items = declared(alloc)?;
+    number_groups(alloc, &mut items)?;
+    print_numbers(items.as_slice(), lines)
+}
+
+/// A line with the groups of the items.
+fn print_numbers(items: &[Item], lines: &mut Lines) -> Result<(), Stopped> {
+    lines.begin("the groups 9, 4, 9 in a word, numbered")?;
+    for item in items {
+        lines.option_value(item.group)?;
+    }
+    lines.end()?;
+    Ok(())
+}
+
+fn owners_alone(alloc: Global, lines: &mut Lines) -> Result<(), Stopped> {
+    let answers = [
+        is_of_owners(&bind_of(alloc, 9)?, &bind_of(alloc, 4)?),
+        is_of_owners(&bind_of(alloc, 9)?, &get(alloc, false)?),
+    ];
+    lines.answers(
+        "let x of the group 9, beside that of 4, beside a field: in owners alone",
+        &answers,
+    )
+}
+
+/// Whether the two items differ in owners alone.
+fn is_of_owners(first: &Item, second: &Item) -> bool {
+    match first_difference(slice::from_ref(first), slice::from_ref(second)) {
+        Some(difference) => difference.is_of_owners(),
+        None => false,
+    }
+}
+
+fn inside_block(alloc: Global, lines: &mut Lines) -> Result<(), Stopped> {
+    let block = block(alloc)?;
+    let outside = Facts::of_source(alloc)?;
+    let inside = outside.in_block(&block)?;
+    lines.options(
+        "what the groups 3 and 5 mean outside of a block 8 of the enum of group 3, and inside",
+        &[
+            outside.group_here(Some(3)),
+            outside.group_here(Some(5)),
+            inside.group_here(Some(3)),
+            inside.group_here(Some(5)),
+            inside.group_here(None),
+        ],
+    )
+}
+
+/// The block 8 of the enum `E` of group 3.
+fn block(alloc: Global) -> Result<ToldBlock, Stopped> {
+    Ok(ToldBlock {
+        name: Name::new(alloc, "E")?,
+        group: Some(3),
+        node: 8,
+        is_first: true,
+        is_top: true,
+        is_pure: true,
+    })
 }

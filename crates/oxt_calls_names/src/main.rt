@@ -1,14 +1,16 @@
-//! Public calls that no row of a table reaches: those of made names, tables of scopes, plans, constants and owners. Each is
+//! Public calls that no row of a table reaches: those of made names, tables of scopes, plans, constants, owners and members that are inlined. Each is
 //! made once, with ample memory, and what it answers is printed. Standard input has the trees and texts on which
 //! they are made.
 #![tactic(auto)]
 
+mod inlines;
 mod names;
 mod owners;
 mod plans;
 mod scoping;
 mod symbols;
 
+use crate::inlines::print_inlines;
 use crate::names::print_names;
 use crate::owners::print_owners;
 use crate::plans::print_plans;
@@ -37,5 +39,6 @@ fn print_all(alloc: Global, table: &Table, lines: &mut Lines) -> std::result::Re
     print_scoping(alloc, table, lines)?;
     print_plans(alloc, lines)?;
     print_symbols(alloc, table, lines)?;
-    print_owners(alloc, table, lines)
+    print_owners(alloc, table, lines)?;
+    print_inlines(alloc, table, lines)
 }

@@ -1,79 +1,77 @@
-//! Names of an output that have not the owner that they had in the source.
+//! The groups that names mean and declare.
 
-use oxt_hygiene::source_owners::SourceOwners;
+use oxt_facts::owners::NameGroups;
 use oxt_lines::lines::Lines;
 use oxt_lines::stopped::Stopped;
 use oxt_lines::table::Table;
 use oxt_resolve::resolve::resolve;
-use oxt_tree::tree::Node;
+use oxt_told::groups::groups_of;
+use oxt_tree::ids::NodeId;
 use std::alloc::Global;
 
-/// The first names that moved from sources to outputs in which the use of `x` has the same number.
+/// The groups of names in trees, by their nodes: of the use of `x` first.
 pub fn print_owners(alloc: Global, table: &Table, lines: &mut Lines) -> Result<(), Stopped> {
     of_variables(alloc, table, lines)?;
-    of_imports(alloc, table, lines)
+    of_imports(alloc, table, lines)?;
+    by_hand(alloc, lines)
 }
 
 fn of_variables(alloc: Global, table: &Table, lines: &mut Lines) -> Result<(), Stopped> {
-    let found = [
-        moved(alloc, table, "{ x; let x; }", "{ x; let x; }", false)?,
-        moved(alloc, table, "{ x; let x; }", "{ x; }", false)?,
-        moved(alloc, table, "{ x; declare let x; }", "{ x; }", false)?,
-        moved(
-            alloc,
-            table,
-            "{ x; declare let x; }",
-            "{ x; let x; }",
-            false,
-        )?,
-    ];
-    lines.options(
-        "{ x; let x; } to itself and to { x; }, { x; declare let x; } to { x; } and to { x; let x; }, the first moved",
-        &found,
-    )
+    print_groups(alloc, table, "{ x; let x; }", &[4, 7], lines)?;
+    print_groups(alloc, table, "{ x; declare let x; }", &[4, 7], lines)?;
+    print_groups(alloc, table, "{ x; }", &[4], lines)
 }
 
 fn of_imports(alloc: Global, table: &Table, lines: &mut Lines) -> Result<(), Stopped> {
-    let found = [
-        moved(alloc, table, "x; import x twice", "x;", false)?,
-        moved(alloc, table, "x; import x twice", "x;", true)?,
-        moved(alloc, table, "x; import x; interface x {}", "x;", false)?,
-    ];
-    lines.options(
-        "x; to x; where two imports of x go, where both are kept, where an import and an interface merge, the first moved",
-        &found,
+    print_groups(alloc, table, "x;", &[3], lines)?;
+    print_groups(alloc, table, "x; import x twice", &[3, 6, 10], lines)?;
+    print_groups(
+        alloc,
+        table,
+        "x; import x; interface x {}",
+        &[3, 6, 9],
+        lines,
     )
 }
 
-/// The first name that moved from the one tree to the other.
-fn moved(
+/// Groups that are put one by one, the second in place of the first.
+fn by_hand(alloc: Global, lines: &mut Lines) -> Result<(), Stopped> {
+    let mut groups = NameGroups::new(alloc);
+    groups.put(NodeId(4), 7)?;
+    groups.put(NodeId(4), 2)?;
+    push_groups(&groups, "4 is put to 7, then to 2", &[4, 7], lines)
+}
+
+/// A line with the groups of these nodes of a tree.
+fn print_groups(
     alloc: Global,
     table: &Table,
-    source: &str,
-    output: &str,
-    all: bool,
-) -> Result<Option<u64>, Stopped> {
-    let source = table.tree(alloc, source)?;
-    let output = table.tree(alloc, output)?;
-    first_moved(alloc, &source.root, &output.root, all)
+    tree: &str,
+    nodes: &[u64],
+    lines: &mut Lines,
+) -> Result<(), Stopped> {
+    let groups = groups_in(alloc, table, tree)?;
+    push_groups(&groups, tree, nodes, lines)
 }
 
-/// The same of these trees.
-fn first_moved(
-    alloc: Global,
-    source: &Node,
-    output: &Node,
-    all: bool,
-) -> Result<Option<u64>, Stopped> {
-    let owners = source_owners(alloc, source, all)?;
-    match owners.first_moved(alloc, output)? {
-        Some(index) => Ok(Some(index as u64)),
-        None => Ok(None),
+/// The groups of the names of a tree.
+fn groups_in(alloc: Global, table: &Table, tree: &str) -> Result<NameGroups, Stopped> {
+    let program = table.tree(alloc, tree)?;
+    let scoping = resolve(alloc, &program.root)?;
+    Ok(groups_of(alloc, &program.root, &scoping)?)
+}
+
+/// A line with the groups of these nodes.
+fn push_groups(
+    groups: &NameGroups,
+    text: &str,
+    nodes: &[u64],
+    lines: &mut Lines,
+) -> Result<(), Stopped> {
+    lines.begin_of("the groups of nodes", text)?;
+    for node in nodes {
+        lines.option_value(groups.of(NodeId(*node)))?;
     }
-}
-
-/// The owners of the names of a source, where all imports of values are kept or not.
-fn source_owners(alloc: Global, source: &Node, all: bool) -> Result<SourceOwners, Stopped> {
-    let scoping = resolve(alloc, source)?;
-    Ok(SourceOwners::of(alloc, source, &scoping, all)?)
+    lines.end()?;
+    Ok(())
 }

@@ -2,7 +2,7 @@
 ghost use Rattle.std.specs.Prelude.{◌<◌, length};
 ghost use Rattle.oxt_stores.specs.Frame.{frames};
 
-use crate::context::{context, of_table};
+use crate::context::{Calls, drop_context, of_table, print_calls};
 use oxt_ctx::context::TraverseCtx;
 use oxt_grammar::kind::Kind;
 use oxt_lines::lines::Lines;
@@ -10,6 +10,7 @@ use oxt_lines::nodes::{node, tree_of};
 use oxt_lines::stopped::Stopped;
 use oxt_lines::table::Table;
 use oxt_resolve::resolve::resolve;
+use oxt_scoping::scoping::Scoping;
 use oxt_traverse::both::Both;
 use oxt_traverse::hook::Hook;
 use oxt_traverse::traverse::Traverse;
@@ -72,7 +73,7 @@ fn hooks() -> &'static [Hook] {
 /// Two passes at one expression, and at each hook of a tree that reaches all.
 pub fn print_both(alloc: Global, table: &Table, lines: &mut Lines) -> Result<(), Stopped> {
     let bytes = table.text(alloc, "hooks")?;
-    twice(alloc, lines)?;
+    print_calls(alloc, Calls::Both, lines)?;
     lines.heading("hooks at which the first gives up before the second, and at which both run")?;
     for hook in hooks() {
         print_hook(alloc, bytes.as_slice(), *hook, lines)?;
@@ -106,7 +107,29 @@ fn is_seen_in(
     end: Option<Hook>,
     hook: Hook,
 ) -> Result<bool, Stopped> {
-    let mut ctx = of_table(alloc, resolve(alloc, &program.root)?);
+    let table = resolve(alloc, &program.root)?;
+    is_seen_by(alloc, table, program, end, hook)
+}
+
+fn is_seen_by(
+    alloc: Global,
+    table: Scoping,
+    program: &mut Program,
+    end: Option<Hook>,
+    hook: Hook,
+) -> Result<bool, Stopped> {
+    let mut ctx = of_table(alloc, table);
+    let is_seen = walk_both(program, end, hook, &mut ctx);
+    drop_context(ctx);
+    is_seen
+}
+
+fn walk_both(
+    program: &mut Program,
+    end: Option<Hook>,
+    hook: Hook,
+    ctx: &mut TraverseCtx,
+) -> Result<bool, Stopped> {
     let mut both = Both {
         first: Probe::Ends { at: end },
         second: Probe::Looks {
@@ -114,7 +137,7 @@ fn is_seen_in(
             is_seen: false,
         },
     };
-    let outcome = walk_program(&mut both, &mut program.root, &mut ctx);
+    let outcome = walk_program(&mut both, &mut program.root, ctx);
     if outcome.is_err() == end.is_some() {
         Ok(both.second.is_seen())
     } else {
@@ -196,14 +219,24 @@ fn with_digit(id: NodeId, digit: u64) -> Result<NodeId, OutOfMemory> {
     }
 }
 
-fn twice(alloc: Global, lines: &mut Lines) -> Result<(), Stopped> {
-    let mut ctx = context(alloc)?;
-    let mut this = node(Kind::ThisExpression, 1, Vec::new(alloc));
-    enter_twice(&mut this, &mut ctx)?;
+/// Enters an expression by two passes.
+pub fn print_twice(alloc: Global, ctx: &mut TraverseCtx, lines: &mut Lines) -> Result<(), Stopped>
+    requires { 0 < length (frames ctx.old.declarations) }
+{
+    let number = number_of_entered(alloc, ctx)?;
     lines.numbers(
         "1, behind which the first pass puts 2 and the second 3",
-        &[this.id.0],
+        &[number],
     )
+}
+
+/// The number of an expression that two passes entered.
+fn number_of_entered(alloc: Global, ctx: &mut TraverseCtx) -> Result<u64, Stopped>
+    requires { 0 < length (frames ctx.old.declarations) }
+{
+    let mut this = node(Kind::ThisExpression, 1, Vec::new(alloc));
+    enter_twice(&mut this, ctx)?;
+    Ok(this.id.0)
 }
 
 /// Enters the expression by two passes.

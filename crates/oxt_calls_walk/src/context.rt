@@ -3,6 +3,7 @@ ghost use Rattle.std.specs.Prelude.{◌≡◌, ◌<◌, ℕ, [], IfOk, None, OnO
 ghost use Rattle.oxt_stores.specs.Frame.{frames};
 ghost use Rattle.oxt_stores.specs.Insertion.{pending};
 
+use crate::both::print_twice;
 use oxt_ctx::ancestor::AncestorRecord;
 use oxt_ctx::bound::BindingNodes;
 use oxt_ctx::context::TraverseCtx;
@@ -30,7 +31,7 @@ use std::alloc::Global;
 
 /// The calls of contexts.
 pub fn print_context(alloc: Global, table: &Table, lines: &mut Lines) -> Result<(), Stopped> {
-    in_one_context(alloc, lines)?;
+    print_calls(alloc, Calls::All, lines)?;
     variables(alloc, table, lines)?;
     print_text_of(alloc, table, "the text of _a1", "_a1;", lines)?;
     print_text_of(alloc, table, "the text of a.b()", "a.b();", lines)?;
@@ -49,17 +50,21 @@ pub fn print_context(alloc: Global, table: &Table, lines: &mut Lines) -> Result<
     print_text_of(alloc, table, "nothing", "the string nothing", lines)
 }
 
-/// A context of a program whose node 2 opens the scope 1, in one list of statements. Numbers begin with 10.
-pub fn context(alloc: Global) -> Result<TraverseCtx, Stopped>
-    ensures { IfOk result (λ ctx. length (frames ctx.declarations) ≡ 1) }
-{
-    let scoping = Scoping::new(alloc, ScopeFlags::Top, UidNames::new(alloc))?;
-    let mut ctx = of_table(alloc, scoping);
-    ctx.var_declarations.record_entering_statements()?;
-    Ok(ctx)
+/// The table of a program in which nothing is declared.
+fn empty_table(alloc: Global) -> Result<Scoping, Stopped> {
+    Ok(Scoping::new(alloc, ScopeFlags::Top, UidNames::new(alloc))?)
 }
 
-/// A context of that table.
+/// Goes into the first list of statements.
+fn open_list(ctx: &mut TraverseCtx) -> Result<(), Stopped>
+    requires { frames ctx.old.declarations ≡ [] }
+    ensures { OnOk result (length (frames ctx.new.declarations) ≡ 1) }
+{
+    ctx.var_declarations.record_entering_statements()?;
+    Ok(())
+}
+
+/// A context of that table, in no list of statements. Numbers begin with 10.
 pub fn of_table(alloc: Global, scoping: Scoping) -> TraverseCtx
     ensures depth { frames result.declarations ≡ [] }
     ensures pending { (n : ℕ) → pending result.injector n ≡ None }
@@ -79,9 +84,52 @@ pub fn of_table(alloc: Global, scoping: Scoping) -> TraverseCtx
     )
 }
 
-fn in_one_context(alloc: Global, lines: &mut Lines) -> Result<(), Stopped> {
-    let mut ctx = context(alloc)?;
-    print_in(alloc, &mut ctx, lines)
+/// What is called in a context of its own.
+#[derive(Clone, Copy)]
+pub enum Calls<'a> {
+    /// What is known of the nodes around, and names that are made.
+    All,
+    /// The makers of variables, one by the text of the node.
+    Variables(&'a Node),
+    /// A hook of two passes.
+    Both,
+}
+
+/// Makes the calls in a context in which nothing is declared.
+pub fn print_calls(alloc: Global, calls: Calls<'_>, lines: &mut Lines) -> Result<(), Stopped> {
+    let table = empty_table(alloc)?;
+    print_calls_by(alloc, table, calls, lines)
+}
+
+/// Drops the context.
+pub fn drop_context(_ctx: TraverseCtx) {}
+
+fn print_calls_by(
+    alloc: Global,
+    table: Scoping,
+    calls: Calls<'_>,
+    lines: &mut Lines,
+) -> Result<(), Stopped> {
+    let mut ctx = of_table(alloc, table);
+    let outcome = print_calls_in(alloc, calls, &mut ctx, lines);
+    drop_context(ctx);
+    outcome
+}
+
+fn print_calls_in(
+    alloc: Global,
+    calls: Calls<'_>,
+    ctx: &mut TraverseCtx,
+    lines: &mut Lines,
+) -> Result<(), Stopped>
+    requires { frames ctx.old.declarations ≡ [] }
+{
+    open_list(ctx)?;
+    match calls {
+        Calls::All => print_in(alloc, ctx, lines),
+        Calls::Variables(member) => three_variables(alloc, member, ctx, lines),
+        Calls::Both => print_twice(alloc, ctx, lines),
+    }
 }
 
 fn print_in(alloc: Global, ctx: &mut TraverseCtx, lines: &mut Lines) -> Result<(), Stopped> {
@@ -261,14 +309,9 @@ fn used_again(made: &Node, ctx: &mut TraverseCtx, lines: &mut Lines) -> Result<(
 fn variables(alloc: Global, table: &Table, lines: &mut Lines) -> Result<(), Stopped> {
     let program = table.tree(alloc, "a.b;")?;
     match first_expression(&program.root) {
-        Some(member) => beside_member(alloc, member, lines),
+        Some(member) => print_calls(alloc, Calls::Variables(member), lines),
         None => Err(Stopped::NoTree),
     }
-}
-
-fn beside_member(alloc: Global, member: &Node, lines: &mut Lines) -> Result<(), Stopped> {
-    let mut ctx = context(alloc)?;
-    three_variables(alloc, member, &mut ctx, lines)
 }
 
 fn three_variables(

@@ -34,13 +34,9 @@ fn lines_from(alloc: Global, numbers: &[NodeId]) -> Result<String, OutOfMemory> 
 /// Fails only where memory runs out.
 pub fn clash_lines_of(alloc: Global, program: &Node) -> Result<String, OutOfMemory> {
     let scoping = resolve(alloc, program)?;
-    line_from(alloc, first_clash(alloc, program, &scoping)?)
-}
-
-/// The number, or `-`, as a line.
-fn line_from(alloc: Global, number: Option<NodeId>) -> Result<String, OutOfMemory> {
+    let clash = first_clash(alloc, program, &scoping)?;
     let mut lines = String::new(alloc);
-    match number {
+    match clash {
         Some(number) => writeln!(lines, "{}", number.0)?,
         None => lines.push_str("-\n")?,
     }

@@ -1,8 +1,8 @@
 //! A case of a table.
 //!
 //! A case is an object of JSON: a `name`, the `source` text that it stands for, its `tree`, the tree of an
-//! `output` where the table compares two, and `wanted`, a list with a value for each line that is wanted: a
-//! text, or what a line has as JSON.
+//! `output` where the table compares two, `optimize` where the members of its enums are inlined, and `wanted`, a
+//! list with a value for each line that is wanted: a text, or what a line has as JSON.
 
 use crate::trees::Trees;
 use anyhow::{Context, Result};
@@ -48,22 +48,17 @@ impl<'a> Case<'a> {
     }
 }
 
-/// The values, a line each.
+/// The values, a line each: a text as it is, and another value as JSON.
 fn joined(alloc: Global, values: &[Value]) -> Result<String, AllocError> {
     let mut lines = String::new(alloc);
     for value in values {
-        push_line(alloc, value, &mut lines)?;
+        match value.as_str() {
+            Some(text) => lines.push_str(text)?,
+            None => push_json(alloc, value, &mut lines)?,
+        }
+        lines.push('\n')?;
     }
     Ok(lines)
-}
-
-/// Puts the line of a value: a text as it is, and another value as JSON.
-fn push_line(alloc: Global, value: &Value, lines: &mut String) -> Result<(), AllocError> {
-    match value.as_str() {
-        Some(text) => lines.push_str(text)?,
-        None => push_json(alloc, value, lines)?,
-    }
-    lines.push('\n')
 }
 
 /// Puts the JSON of a value.

@@ -96,16 +96,13 @@ fn push_numbered(
 ) -> Result<(), OutOfMemory> {
     write!(lines, "{} ", constant.node.0)?;
     match &constant.value {
-        Some(ConstantValue::Text(text)) => push_bytes(alloc, text.as_str(), lines)?,
+        Some(ConstantValue::Text(text)) => {
+            let digits = hex::encode(alloc, text.as_str())?;
+            write!(lines, "t{}", digits.as_str())?;
+        }
         value => push_value(alloc, value.as_ref(), lines)?,
     }
     push_wide(constant, lines)
-}
-
-/// Puts a `t` and the digits of the bytes of the text.
-fn push_bytes(alloc: Global, text: &str, lines: &mut String) -> Result<(), OutOfMemory> {
-    let digits = hex::encode(alloc, text)?;
-    Ok(write!(lines, "t{}", digits.as_str())?)
 }
 
 /// A line for each block of an enum, by the scopes that declare them: the number of its body, that of the scope,

@@ -25,7 +25,8 @@ fn lines_from(alloc: Global, program: &Node, scoping: &Scoping) -> Result<String
     let mut lines = String::new(alloc);
     push_misnamed(alloc, program, scoping, &mut lines)?;
     push_shadowed(alloc, program, scoping, &mut lines)?;
-    push_found("wide", first_wide(alloc, program)?, &mut lines)?;
+    let wide = first_wide(program, scoping);
+    push_found("wide", wide.map(|member| member.node), &mut lines)?;
     Ok(lines)
 }
 

@@ -2,7 +2,7 @@
 
 use oxt_faults::level::{FoundWord, first_level_word, first_level_word_in};
 use oxt_tree::ids::OutOfMemory;
-use oxt_tree::tree::{Node, Part};
+use oxt_tree::tree::Node;
 use std::alloc::Global;
 
 /// A line for each statement of the program, and one for all of them: the first word at their level and the
@@ -15,18 +15,14 @@ pub fn lines_of(alloc: Global, program: &Node) -> Result<String, OutOfMemory> {
     let statements = program.list("body");
     let mut lines = String::new(alloc);
     for statement in statements {
-        push_found(word_of(statement), &mut lines)?;
+        let word = match statement.as_node() {
+            Some(statement) => first_level_word(statement),
+            None => None,
+        };
+        push_found(word, &mut lines)?;
     }
     push_found(first_level_word_in(statements), &mut lines)?;
     Ok(lines)
-}
-
-/// The first word of a statement.
-fn word_of(statement: &Part) -> Option<FoundWord> {
-    match statement.as_node() {
-        Some(node) => first_level_word(node),
-        None => None,
-    }
 }
 
 /// Puts the line of a word.

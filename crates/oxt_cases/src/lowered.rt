@@ -42,7 +42,7 @@ fn lower(alloc: Global, program: &mut Program) -> Result<(), OutOfMemory> {
 /// What is known of the program.
 fn context_of(alloc: Global, program: &Program) -> Result<TraverseCtx, OutOfMemory> {
     let scoping = resolve(alloc, &program.root)?;
-    let plan = plan_of(alloc, &program.root, &scoping)?;
+    let plan = plan_of(alloc, &program.root, &scoping, false)?;
     Ok(TraverseCtx::new(alloc, scoping, plan, STATE, program.ids))
 }
 

@@ -36,7 +36,8 @@ pub fn show_word<S: Source, O: Sink>(
         Ok(program) => program,
         Err(fault) => return Err(Fault::Tree(fault)),
     };
-    let items = word_of(&Facts::of_source(alloc), &program.root)?;
+    let facts = Facts::of_source(alloc)?;
+    let items = word_of(&facts, &program.root)?;
     let lines = lines_of(alloc, items.as_slice())?;
     match write_all(out, lines.as_slice()) {
         Ok(()) => Ok(()),

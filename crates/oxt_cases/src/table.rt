@@ -43,6 +43,8 @@ pub enum Table {
     Word,
     /// The same, where of enums is told what they are.
     ToldWord,
+    /// The same, where names have their groups.
+    Owned,
     /// The word of the output.
     Pair,
     /// The first difference of the word of the output from that of the tree.
@@ -50,7 +52,7 @@ pub enum Table {
 }
 
 /// The tables that have cases.
-pub const TABLES: [Table; 18] = [
+pub const TABLES: [Table; 19] = [
     Table::Names,
     Table::Owners,
     Table::Declarations,
@@ -67,6 +69,7 @@ pub const TABLES: [Table; 18] = [
     Table::Lowered,
     Table::Word,
     Table::ToldWord,
+    Table::Owned,
     Table::Pair,
     Table::Differences,
 ];
@@ -91,6 +94,7 @@ impl Table {
             "lowered" => Some(Table::Lowered),
             "word" => Some(Table::Word),
             "told-word" => Some(Table::ToldWord),
+            "owned" => Some(Table::Owned),
             "pair" => Some(Table::Pair),
             "differences" => Some(Table::Differences),
             _ => None,
@@ -116,6 +120,7 @@ impl Table {
             Table::Lowered => "lowered.json",
             Table::Word => "word.json",
             Table::ToldWord => "told-word.json",
+            Table::Owned => "owned.json",
             Table::Pair => "pair.json",
             Table::Differences => "differences.json",
         }
@@ -151,6 +156,7 @@ impl Table {
 
     /// The lines for a tree alone.
     fn tree_lines(self, alloc: Global, trees: &mut Trees) -> Result<String, OutOfMemory> {
+        let optimizes = trees.optimizes;
         let program = &mut trees.tree;
         match self {
             Table::Names => names::lines_of(alloc, &program.root),
@@ -164,10 +170,11 @@ impl Table {
             Table::FirstBlocks => blocks::first_lines_of(alloc, &program.root),
             Table::Clash => blocks::clash_lines_of(alloc, &program.root),
             Table::EnumFaults => faults::lines_of(alloc, &program.root),
-            Table::Told => told::lines_of(alloc, program),
+            Table::Told => told::lines_of(alloc, program, optimizes),
             Table::Levels => levels::lines_of(alloc, &program.root),
             Table::Lowered => lowered::lines_of(alloc, program),
-            Table::ToldWord => words::told_lines(alloc, &program.root),
+            Table::ToldWord => words::told_lines(alloc, &program.root, optimizes),
+            Table::Owned => words::owned_lines(alloc, &program.root, optimizes),
             _ => words::source_lines(alloc, &program.root),
         }
     }

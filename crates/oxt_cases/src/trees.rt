@@ -11,6 +11,8 @@ use std::alloc::Global;
 pub struct Trees {
     /// The tree.
     pub tree: Program,
+    /// Whether the members of enums are inlined, and enums dropped.
+    pub optimizes: bool,
     /// The tree of an output.
     output: Option<Program>,
 }
@@ -24,6 +26,7 @@ impl Trees {
     pub fn from_bytes(alloc: Global, bytes: &[u8]) -> Result<Trees> {
         Ok(Trees {
             tree: tree_of_bytes(alloc, bytes)?,
+            optimizes: false,
             output: None,
         })
     }
@@ -38,6 +41,7 @@ impl Trees {
         let tree = value.get("tree").context("there is no tree")?;
         Ok(Trees {
             tree: tree_of(alloc, tree)?,
+            optimizes: value.get("optimize").is_some(),
             output,
         })
     }

@@ -1,13 +1,19 @@
 -- What a fault says, and the faults of a source tree.
 use Rattle.std.specs.Prelude.{◌≡◌, ℕ, List, [], if◌then◌else◌, Option, None, Some, option_map, unwrap_or, ⊤}
 use Rattle.std.specs.Option.{option_or}
-use Rattle.oxt_faults.specs.Captured.{Capture, captured}
-use Rattle.oxt_check.specs.Refusals.{Refusal, json, shape, unbuilt_form, misplaced_node, captured_name, uncertified, difference_in}
+use Rattle.oxt_check.specs.Captures.{first_capture}
+use Rattle.oxt_check.specs.Misplacements.{first_misplacement}
+use Rattle.oxt_check.specs.Refusals.{Refusal, json, shape, unbuilt_form, misplaced_node, wide_member, captured_name, uncertified, difference_in, span_of}
 use Rattle.oxt_check.specs.declared.fault.Fault.{Fault}
 use Rattle.oxt_check.specs.declared.fault.Fault.TheVariants as fault
+use Rattle.oxt_enum_checks.specs.First.{first_blocks}
+use Rattle.oxt_enum_checks.specs.Wide.{wide}
+use Rattle.oxt_enum_checks.specs.declared.wide.WideMember.{WideMember}
+use Rattle.oxt_faults.specs.Captured.{Capture}
+use Rattle.oxt_faults.specs.Misplaced.{Misplacement}
+use Rattle.oxt_inline.specs.DroppedEnums.{dropped}
+use Rattle.oxt_inline.specs.Inlined.{inlined}
 use Rattle.oxt_modules.specs.Kept.{kept}
-use Rattle.oxt_faults.specs.Misplaced.{misplaced}
-use Rattle.oxt_faults.specs.declared.misplaced.MisplacedKind.{MisplacedKind}
 use Rattle.oxt_options.specs.Options.{TransformData}
 use Rattle.oxt_tree.specs.Place.{place_of}
 use Rattle.oxt_options.specs.Facts.{Facts, no_facts}
@@ -24,6 +30,7 @@ refusal_in fault.Json = Some json
 refusal_in (fault.Shape place) = Some (shape (name_bytes place))
 refusal_in (fault.Unbuilt kind) = Some (unbuilt_form (name_bytes kind))
 refusal_in (fault.Misplaced kind place) = Some (misplaced_node kind (name_bytes place))
+refusal_in (fault.Wide span) = Some (wide_member (span_of span))
 refusal_in (fault.Captured name place) = Some (captured_name (name_bytes name) (name_bytes place))
 refusal_in (fault.Uncertified mismatch) = Some (uncertified (difference_in mismatch))
 
@@ -33,18 +40,24 @@ refusal_in (fault.Uncertified mismatch) = Some (uncertified (difference_in misma
 abbrev pub place_text : Doc → ℕ → List ℕ
 place_text d n = unwrap_or (place_of n d) []
 
-abbrev pub misplaced_refusal : Doc → MisplacedKind × ℕ → Refusal
+abbrev pub misplaced_refusal : Doc → Misplacement → Refusal
 misplaced_refusal d m = misplaced_node m.0 (place_text d m.1)
+
+abbrev pub wide_refusal : WideMember → Refusal
+wide_refusal w = wide_member (span_of w.span)
 
 abbrev pub captured_refusal : Doc → Capture → Refusal
 captured_refusal d c = captured_name c.name (place_text d c.node)
 
--- the first misplaced node, and else the first captured name
+-- The first misplaced node, and else the first member whose constant would be too large, and else the first captured
+-- name.
 abbrev pub place_fault : Scoped → Doc → Option Refusal
-place_fault s d = option_or (option_map (misplaced_refusal d) (misplaced d)) (option_map (captured_refusal d) (captured s d))
+place_fault s d =
+    option_or (option_map (misplaced_refusal d) (first_misplacement s d))
+    (option_or (option_map wide_refusal (wide s d)) (option_map (captured_refusal d) (first_capture s d)))
 
 -- The first reason for which a source tree is refused: a form that is not built yet; and, where it is no file of
--- definitions, of which nothing is left, a misplaced node or a captured name.
+-- definitions, of which nothing is left, a misplaced node, a constant that would be too large, or a captured name.
 abbrev pub first_fault : Scoped → Doc → Option Refusal
 first_fault s d = option_or (option_map unbuilt_form (unbuilt d)) (if is_definition_file d then None else place_fault s d)
 
@@ -60,6 +73,13 @@ IsPlaceFault (Some r) s d = place_fault s d ≡ Some r
 
 -- ---- the plan
 
--- what a plan knows of the source tree: the specifiers that are kept
+-- What a plan knows of the source tree: the specifiers that are kept, the blocks that come first in their enums, the
+-- expressions that are inlined with their constants, and the blocks that are dropped.
 abbrev pub facts_of : Scoped → Doc → TransformData → Facts
-facts_of s d o = record no_facts { kept = kept s d o.typescript }
+facts_of s d o =
+    record no_facts {
+      kept = kept s d o.typescript;
+      first = first_blocks s d;
+      dropped = dropped s d o.typescript;
+      inlined = inlined s d o.typescript;
+    }

@@ -3,8 +3,9 @@ use Rattle.std.specs.Prelude.{ℕ, List, ◌++◌, codes, decimal}
 use Rattle.oxt_check.specs.declared.fault.Mismatch.{Mismatch}
 use Rattle.oxt_check.specs.declared.fault.Mismatch.TheVariants.{Shape, Plain, Setting, Item, Owner}
 use Rattle.oxt_faults.specs.declared.misplaced.MisplacedKind.{MisplacedKind}
-use Rattle.oxt_faults.specs.declared.misplaced.MisplacedKind.TheVariants.{Body, Decorator}
+use Rattle.oxt_faults.specs.declared.misplaced.MisplacedKind.TheVariants.{Body, Merge, Enum, Decorator}
 use Rattle.oxt_tree.specs.Names.{name_bytes}
+use Rattle.oxt_tree.specs.declared.ids.Span.{Span}
 
 -- how a lowered tree differs from what it has to be: the first place at which it is none of the
 -- grammar, the first at which something of TypeScript is left, a setting of the program, the first item
@@ -23,19 +24,26 @@ difference_in (Setting place) = setting_at (name_bytes place)
 difference_in (Item i) = item_at i
 difference_in (Owner i) = owner_at i
 
--- the bytes are no JSON; the value at a place is wrong; a form is not built yet; a node is misplaced; a name would be
--- captured; the lowered tree failed its test
+-- the bytes are no JSON; the value at a place is wrong; a form is not built yet; a node is misplaced; the constant of a
+-- member that stands there would be too large; a name would be captured; the lowered tree failed its test
 pub data Refusal : Type 0 where
   json : Refusal
   shape : List ℕ → Refusal
   unbuilt_form : List ℕ → Refusal
   misplaced_node : MisplacedKind → List ℕ → Refusal
+  wide_member : ℕ × ℕ → Refusal
   captured_name : List ℕ → List ℕ → Refusal
   uncertified : Difference → Refusal
+
+-- a span: where it begins and ends
+abbrev pub span_of : Span → ℕ × ℕ
+span_of s = (s.start, s.end)
 
 -- how lines name what is misplaced
 abbrev pub kind_text : MisplacedKind → List ℕ
 kind_text Body = codes "body"
+kind_text Merge = codes "merge"
+kind_text Enum = codes "enum"
 kind_text Decorator = codes "decorator"
 
 -- the line on standard error
@@ -44,6 +52,7 @@ line_of json = codes "json\n"
 line_of (shape place) = codes "shape " ++ place ++ codes "\n"
 line_of (unbuilt_form kind) = codes "unbuilt " ++ kind ++ codes "\n"
 line_of (misplaced_node m place) = codes "misplaced " ++ kind_text m ++ codes " " ++ place ++ codes "\n"
+line_of (wide_member span) = codes "wide " ++ decimal span.0 ++ codes ".." ++ decimal span.1 ++ codes "\n"
 line_of (captured_name name place) = codes "captured " ++ name ++ codes " " ++ place ++ codes "\n"
 line_of (uncertified (misfit_at place)) = codes "uncertified shape " ++ place ++ codes "\n"
 line_of (uncertified (typescript_at place)) = codes "uncertified plain " ++ place ++ codes "\n"

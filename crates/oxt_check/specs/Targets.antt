@@ -1,12 +1,12 @@
 -- Wrappers that stay in the output: those where something is assigned, around neither an identifier nor a member.
-use Rattle.std.specs.Prelude.{ℕ, List, [], ◌∷◌, ◌++◌, map, Bool, true, false, nat_eq, not, ◌&&◌, if◌then◌else◌}
+use Rattle.std.specs.Prelude.{ℕ, List, [], ◌∷◌, ◌++◌, map, Bool, nat_eq, not, ◌&&◌, if◌then◌else◌}
 use Rattle.std.specs.List.{list_any}
 use Rattle.oxt_grammar.specs.Field.{Field}
 use Rattle.oxt_grammar.specs.Rows.{row_of}
-use Rattle.oxt_grammar.specs.declared.category.Category.{Category}
 use Rattle.oxt_grammar.specs.declared.category.Category.TheVariants as category
 use Rattle.oxt_grammar.specs.declared.holds.Holds.{Holds}
 use Rattle.oxt_grammar.specs.declared.holds.Holds.TheVariants as holds
+use Rattle.oxt_inline.specs.Target.{holds_target}
 use Rattle.oxt_tree.specs.Doc.{Doc, nil, flag, number, text, list, node, Docs, no_docs, doc}
 use Rattle.oxt_tree.specs.Fields.{is_in}
 use Rattle.oxt_tree.specs.Inner.{inner_expression}
@@ -21,22 +21,6 @@ numbers_in ns = map (λ n. n.0) ns
 -- the number is one of the list
 abbrev pub is_listed : List ℕ → ℕ → Bool
 is_listed ns n = list_any (nat_eq n) ns
-
--- something is assigned there
-abbrev pub is_target : Category → Bool
-is_target category.SimpleAssignmentTarget = true
-is_target category.AssignmentTarget = true
-is_target category.AssignmentTargetMaybeDefault = true
-is_target category.ForStatementLeft = true
-is_target c = false
-
--- something is assigned to what the field holds, or to each element of its list
-abbrev pub holds_target : Holds → Bool
-holds_target (holds.Node c) = is_target c
-holds_target (holds.NodeOrNull c) = is_target c
-holds_target (holds.List c) = is_target c
-holds_target (holds.ListOfNullable c) = is_target c
-holds_target h = false
 
 -- a wrapper that cannot be opened where something is assigned: what is inside it, through wrappers and
 -- parentheses, is neither an identifier nor a member

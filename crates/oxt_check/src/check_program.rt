@@ -1,6 +1,6 @@
 //! The check of a program, before any pass changes it.
 ghost use Rattle.std.specs.Prelude.{◌≡◌, None, Some, OnOk, IfOk, IfErr};
-ghost use Rattle.oxt_faults.specs.Captured.{capture_view};
+ghost use Rattle.oxt_check.specs.Captures.{name_view};
 ghost use Rattle.oxt_check.specs.Faults.{IsFaultOf, IsPlaceFault, captured_refusal, facts_of, first_fault, misplaced_refusal, place_fault, place_text, refusal_in};
 ghost use Rattle.oxt_faults.specs.Misplaced.{misplaced_view};
 ghost use Rattle.oxt_options.specs.Options.{transform_view};
@@ -8,9 +8,14 @@ ghost use Rattle.oxt_options.specs.Facts.{Answers};
 ghost use Rattle.oxt_tree.specs.Names.{name_bytes};
 ghost use Rattle.oxt_tree.specs.View.{node_doc};
 
+use crate::capture::{NameAt, first_capture};
 use crate::fault::Fault;
-use oxt_faults::captured::{CapturedName, first_captured};
-use oxt_faults::misplaced::{Misplaced, first_misplaced};
+use crate::misplacement::first_misplacement;
+use oxt_enum_checks::first::first_blocks;
+use oxt_enum_checks::wide::first_wide;
+use oxt_faults::misplaced::Misplaced;
+use oxt_inline::dropped::dropped_blocks;
+use oxt_inline::inlined::inlined_expressions;
 use oxt_modules::kept::kept_specifiers;
 use oxt_options::TransformOptions;
 use oxt_options::lists::PlanLists;
@@ -25,14 +30,14 @@ use std::alloc::Global;
 
 /// What the passes ask of the nodes of a program, whose table of scopes and symbols is `scoping`.
 ///
-/// So far they ask which specifiers of imports and exports are kept; the other lists of the plan are
-/// empty.
+/// They ask which specifiers of imports and exports are kept, which blocks of enums come first or are dropped, and which
+/// expressions are inlined; the list of names that nothing writes to is empty so far.
 ///
 /// # Errors
 ///
-/// The first form that is not built yet, or the first misplaced node, or the first name that would be
-/// captured, in this order; nothing else but want of memory. Of a file of definitions nothing is left,
-/// so that nothing in it is misplaced or captured.
+/// The first form that is not built yet, or the first misplaced node, or the first member whose constant would be too
+/// large, or the first name that would be captured, in this order; nothing else but want of memory. Of a file of
+/// definitions nothing is left, so that nothing in it is one of the last three.
 pub fn check(
     alloc: Global,
     program: &Program,
@@ -56,15 +61,19 @@ pub fn check(
     Ok(plan_of(alloc, &program.root, scoping, options)?)
 }
 
-/// Finds the first misplaced node, and else the first captured name.
+/// Finds the first misplaced node, and else the first member whose constant would be too large, and else the first
+/// captured name.
 fn check_places(alloc: Global, program: &Node, scoping: &Scoping) -> Result<(), Fault>
     ensures accepted { OnOk result (place_fault scoping.now (node_doc program.now) ≡ None) }
     ensures refused { IfErr result (λ f. IsPlaceFault (refusal_in f) scoping.now (node_doc program.now)) }
 {
-    if let Some(misplaced) = first_misplaced(program) {
+    if let Some(misplaced) = first_misplacement(alloc, program, scoping)? {
         return Err(misplaced_fault(alloc, program, misplaced)?);
     }
-    if let Some(captured) = first_captured(program, scoping) {
+    if let Some(member) = first_wide(program, scoping) {
+        return Err(Fault::Wide { span: member.span });
+    }
+    if let Some(captured) = first_capture(alloc, program, scoping)? {
         return Err(captured_fault(alloc, program, captured)?);
     }
     Ok(())
@@ -87,16 +96,12 @@ fn misplaced_fault(
 }
 
 /// The fault that a name would be captured.
-fn captured_fault(
-    alloc: Global,
-    program: &Node,
-    captured: CapturedName,
-) -> Result<Fault, OutOfMemory>
+fn captured_fault(alloc: Global, program: &Node, captured: NameAt) -> Result<Fault, OutOfMemory>
     ensures { IfOk result
-        (λ f. refusal_in f ≡ Some (captured_refusal (node_doc program.now) (capture_view captured.entry))) }
+        (λ f. refusal_in f ≡ Some (captured_refusal (node_doc program.now) (name_view captured.entry))) }
 {
     let place = place_text(alloc, program, captured.node)?;
-    let name = captured.name.share()?;
+    let name = Name::new(alloc, captured.name)?;
     Ok(Fault::Captured { name, place })
 }
 
@@ -120,7 +125,11 @@ fn plan_of(
     ensures { IfOk result
         (λ plan. Answers plan (facts_of scoping.now (node_doc program.now) (transform_view options.now))) }
 {
+    let typescript = &options.typescript;
     let mut lists = PlanLists::empty(alloc);
-    lists.kept = kept_specifiers(alloc, program, scoping, &options.typescript)?;
+    lists.kept = kept_specifiers(alloc, program, scoping, typescript)?;
+    lists.first = first_blocks(alloc, program, scoping)?;
+    lists.inlined = inlined_expressions(alloc, program, scoping, typescript)?;
+    lists.dropped = dropped_blocks(alloc, program, scoping, typescript)?;
     Plan::new(alloc, lists)
 }

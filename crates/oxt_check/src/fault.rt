@@ -1,11 +1,11 @@
 //! Why bytes are refused.
 ghost use Rattle.std.specs.Prelude.{◌≡◌, IfOk, ◌++◌, codes, option_map, string_bytes};
 ghost use Rattle.oxt_check.specs.Faults.{refusal_in};
-ghost use Rattle.oxt_check.specs.Refusals.{difference_in, kind_text, line_of, uncertified};
+ghost use Rattle.oxt_check.specs.Refusals.{difference_in, kind_text, line_of, span_of, uncertified, wide_member};
 ghost use Rattle.oxt_check.specs.declared.fault.Fault.TheVariants.{OutOfMemory as NoMemory};
 
 pub use oxt_faults::misplaced::MisplacedKind;
-use oxt_tree::ids::OutOfMemory;
+use oxt_tree::ids::{OutOfMemory, Span};
 use oxt_tree::name::Name;
 use std::alloc::{AllocError, Global};
 use thiserror::Error;
@@ -29,6 +29,9 @@ pub enum Fault {
     /// A node stands where it cannot be lowered.
     #[error("a misplaced node at {place:?}", place = .place.as_str())]
     Misplaced { kind: MisplacedKind, place: Name },
+    /// The constant of a member of an enum, which stands there, would be larger than the largest.
+    #[error("the constant of the member at {start}..{end} would be too large", start = .span.start, end = .span.end)]
+    Wide { span: Span },
     /// A name would change its owner, once the declaration that it means is erased.
     #[error("the name {name:?} at {place:?} would be captured", name = .name.as_str(), place = .place.as_str())]
     Captured { name: Name, place: Name },
@@ -74,6 +77,7 @@ impl Fault {
             Fault::Misplaced { kind, place } => {
                 Ok(Some(placed_line(alloc, "misplaced ", kind_text(*kind), place.as_str())?))
             }
+            Fault::Wide { span } => Ok(Some(wide_line(alloc, *span)?)),
             Fault::Captured { name, place } => {
                 Ok(Some(placed_line(alloc, "captured ", name.as_str(), place.as_str())?))
             }
@@ -111,8 +115,24 @@ fn kind_text(kind: MisplacedKind) -> &'static str
 {
     match kind {
         MisplacedKind::Body => "body",
+        MisplacedKind::Merge => "merge",
+        MisplacedKind::Enum => "enum",
         MisplacedKind::Decorator => "decorator",
     }
+}
+
+// Where a member stands whose constant would be too large, and a line feed.
+fn wide_line(alloc: Global, span: Span) -> Result<String, AllocError>
+    ensures { IfOk result (λ line. string_bytes line ≡ line_of (wide_member (span_of span))) }
+{
+    let start = span.start.to_string(alloc)?;
+    let end = span.end.to_string(alloc)?;
+    let mut line = String::from_str(alloc, "wide ")?;
+    line.push_str(start.as_str())?;
+    line.push_str("..")?;
+    line.push_str(end.as_str())?;
+    line.push_str("\n")?;
+    Ok(line)
 }
 
 // How the lowered tree fails its certificate, and a line feed.

@@ -2,10 +2,12 @@
 #![tactic(auto)]
 
 pub mod beside;
+mod capture;
 pub mod check_program;
 pub mod diagnose;
 pub mod fault;
 pub mod laws;
+mod misplacement;
 mod push;
 pub mod targets;
 mod wrapped;

@@ -1,10 +1,11 @@
 //! Which wrappers cannot be opened where they stand.
 ghost use Rattle.std.specs.Prelude.{◌≡◌};
-ghost use Rattle.oxt_check.specs.Targets.{holds_target, is_closed_wrapper, is_target, is_wrapped_target};
+ghost use Rattle.oxt_check.specs.Targets.{is_closed_wrapper, is_wrapped_target};
 ghost use Rattle.oxt_tree.specs.View.{node_doc};
 
 use oxt_grammar::category::Category;
 use oxt_grammar::holds::Holds;
+use oxt_inline::target::holds_target;
 use oxt_tree::tree::Node;
 
 /// Whether the node is a wrapper where something is assigned, around neither an identifier nor a member, by what
@@ -21,30 +22,4 @@ fn is_closed_wrapper(node: &Node) -> bool
 {
     Category::Wrapper.contains(node.kind)
         && !Category::SimpleAssignmentTarget.contains(node.get_inner_expression().kind)
-}
-
-/// Whether something is assigned to what the field holds, or to each element of its list.
-fn holds_target(holds: Holds) -> bool
-    ensures { result ≡ holds_target holds }
-{
-    match holds {
-        Holds::Node(category) => is_target(category),
-        Holds::NodeOrNull(category) => is_target(category),
-        Holds::List(category) => is_target(category),
-        Holds::ListOfNullable(category) => is_target(category),
-        _ => false,
-    }
-}
-
-/// Whether something is assigned there.
-fn is_target(category: Category) -> bool
-    ensures { result ≡ is_target category }
-{
-    match category {
-        Category::SimpleAssignmentTarget => true,
-        Category::AssignmentTarget => true,
-        Category::AssignmentTargetMaybeDefault => true,
-        Category::ForStatementLeft => true,
-        _ => false,
-    }
 }

@@ -1,3 +1,4 @@
 pub mod All
 pub mod Found
+pub mod Operators
 pub mod Templates

@@ -1,3 +1,5 @@
 pub mod Evaluated
 pub mod Following
 pub mod Forms
+pub mod Metered
+pub mod Operands

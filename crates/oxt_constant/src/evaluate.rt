@@ -1,5 +1,6 @@
 //! The constant of an expression.
 ghost use Rattle.std.specs.Prelude.{◌≡◌, IfOk, codes, option_map};
+ghost use Rattle.oxt_constant.specs.Operands.{operand_view};
 ghost use Rattle.oxt_constant.specs.Evaluated.{all_of, binary_of, constant, constant_views, each_seen, seen, seen_in, template_of, unary_of};
 ghost use Rattle.oxt_names.specs.Constant.{constant_view};
 ghost use Rattle.oxt_tree.specs.Fields.{elements, named, text_in};
@@ -8,6 +9,8 @@ ghost use Rattle.oxt_tree.specs.View.{docs_in, node_doc, part_doc};
 use crate::form::{Form, form_of};
 use crate::leaf::{after_dot, bare, in_brackets, number_of, string_of};
 use crate::meanings::Meanings;
+use crate::meter::TextMeter;
+use crate::operand::{Operand, settled, shared};
 use crate::parts::{binary, template, unary};
 use oxt_names::constant::ConstantValue;
 use oxt_tree::fields::place_of;
@@ -15,30 +18,44 @@ use oxt_tree::ids::OutOfMemory;
 use oxt_tree::tree::{Node, Part};
 use std::alloc::Global;
 
-/// The constant of the expression, if it has one.
+/// The constant of the expression, if it has one. What is written of texts on the way to it is counted.
 ///
 /// # Errors
 ///
-/// Fails only where memory runs out.
-#[cycle(constant)]
+/// Fails only where memory runs out, or where more bytes of text would be written than may be.
 pub fn constant_of<M: Meanings>(
     alloc: Global,
     env: &M,
+    written: &mut TextMeter,
     node: &Node,
 ) -> Result<Option<ConstantValue>, OutOfMemory>
     ensures { IfOk result
         (λ value. option_map constant_view value ≡ constant (M.env env.now) (node_doc node.now)) }
 {
+    settled(operand_of(alloc, env, written, node)?)
+}
+
+/// The constant of the expression, as an operand.
+#[cycle(constant)]
+fn operand_of<M: Meanings>(
+    alloc: Global,
+    env: &M,
+    written: &mut TextMeter,
+    node: &Node,
+) -> Result<Option<Operand>, OutOfMemory>
+    ensures { IfOk result
+        (λ value. option_map operand_view value ≡ constant (M.env env.now) (node_doc node.now)) }
+{
     match form_of(node.kind) {
-        Form::Number => Ok(number_of(node)),
-        Form::String => string_of(alloc, node),
-        Form::Template => of_template(alloc, env, node),
-        Form::Parentheses => of_field(alloc, env, node, "expression"),
-        Form::Unary => of_unary(alloc, env, node),
-        Form::Binary => of_binary(alloc, env, node),
-        Form::Name => shared(bare(env, node)),
-        Form::Static => shared(after_dot(env, node)),
-        Form::Computed => shared(in_brackets(env, node)),
+        Form::Number => Ok(shared(number_of(node))),
+        Form::String => Ok(shared(string_of(alloc, node)?)),
+        Form::Template => of_template(alloc, env, written, node),
+        Form::Parentheses => of_field(alloc, env, written, node, "expression"),
+        Form::Unary => of_unary(alloc, env, written, node),
+        Form::Binary => of_binary(alloc, env, written, node),
+        Form::Name => meant(bare(env, node)),
+        Form::Static => meant(after_dot(env, node)),
+        Form::Computed => meant(in_brackets(env, node)),
         Form::Other => Ok(None),
     }
 }
@@ -48,16 +65,17 @@ pub fn constant_of<M: Meanings>(
 fn of_field<M: Meanings>(
     alloc: Global,
     env: &M,
+    written: &mut TextMeter,
     node: &Node,
     name: &str,
-) -> Result<Option<ConstantValue>, OutOfMemory>
+) -> Result<Option<Operand>, OutOfMemory>
     ensures { IfOk result
-        (λ value. option_map constant_view value
+        (λ value. option_map operand_view value
         ≡ (seen_in (M.env env.now) node.now name.now).one) }
 {
     match place_of(node.kind.rows(), name) {
         Some(place) => match node.parts.get(place) {
-            Some(part) => of_part(alloc, env, part),
+            Some(part) => of_part(alloc, env, written, part),
             None => Ok(None),
         },
         None => Ok(None),
@@ -69,15 +87,30 @@ fn of_field<M: Meanings>(
 fn of_part<M: Meanings>(
     alloc: Global,
     env: &M,
+    written: &mut TextMeter,
+    part: &Part,
+) -> Result<Option<Operand>, OutOfMemory>
+    ensures { IfOk result
+        (λ value. option_map operand_view value ≡ constant (M.env env.now) (part_doc part.now)) }
+{
+    match part {
+        Part::Node(node) => operand_of(alloc, env, written, node),
+        _ => Ok(None),
+    }
+}
+
+/// The same, for others to share.
+#[cycle(constant)]
+fn constant_of_part<M: Meanings>(
+    alloc: Global,
+    env: &M,
+    written: &mut TextMeter,
     part: &Part,
 ) -> Result<Option<ConstantValue>, OutOfMemory>
     ensures { IfOk result
         (λ value. option_map constant_view value ≡ constant (M.env env.now) (part_doc part.now)) }
 {
-    match part {
-        Part::Node(node) => constant_of(alloc, env, node),
-        _ => Ok(None),
-    }
+    settled(of_part(alloc, env, written, part)?)
 }
 
 /// The constant of an expression with an operator and one operand.
@@ -85,13 +118,14 @@ fn of_part<M: Meanings>(
 fn of_unary<M: Meanings>(
     alloc: Global,
     env: &M,
+    written: &mut TextMeter,
     node: &Node,
-) -> Result<Option<ConstantValue>, OutOfMemory>
+) -> Result<Option<Operand>, OutOfMemory>
     ensures { IfOk result
-        (λ value. option_map constant_view value
+        (λ value. option_map operand_view value
         ≡ unary_of (seen_in (M.env env.now) node.now (codes "argument")).one (text_in (named (codes "operator") node.now.kind (docs_in node.now.parts.items)))) }
 {
-    match of_field(alloc, env, node, "argument")? {
+    match of_field(alloc, env, written, node, "argument")? {
         Some(operand) => Ok(unary(node, &operand)),
         None => Ok(None),
     }
@@ -102,18 +136,19 @@ fn of_unary<M: Meanings>(
 fn of_binary<M: Meanings>(
     alloc: Global,
     env: &M,
+    written: &mut TextMeter,
     node: &Node,
-) -> Result<Option<ConstantValue>, OutOfMemory>
+) -> Result<Option<Operand>, OutOfMemory>
     ensures { IfOk result
-        (λ value. option_map constant_view value
+        (λ value. option_map operand_view value
         ≡ binary_of (seen_in (M.env env.now) node.now (codes "left")).one (seen_in (M.env env.now) node.now (codes "right")).one (text_in (named (codes "operator") node.now.kind (docs_in node.now.parts.items)))) }
 {
-    let left = match of_field(alloc, env, node, "left")? {
+    let left = match of_field(alloc, env, written, node, "left")? {
         Some(left) => left,
         None => return Ok(None),
     };
-    match of_field(alloc, env, node, "right")? {
-        Some(right) => binary(alloc, node, &left, &right),
+    match of_field(alloc, env, written, node, "right")? {
+        Some(right) => binary(alloc, written, node, left, &right),
         None => Ok(None),
     }
 }
@@ -123,14 +158,15 @@ fn of_binary<M: Meanings>(
 fn of_template<M: Meanings>(
     alloc: Global,
     env: &M,
+    written: &mut TextMeter,
     node: &Node,
-) -> Result<Option<ConstantValue>, OutOfMemory>
+) -> Result<Option<Operand>, OutOfMemory>
     ensures { IfOk result
-        (λ value. option_map constant_view value
+        (λ value. option_map operand_view value
         ≡ template_of (elements (named (codes "quasis") node.now.kind (docs_in node.now.parts.items))) (seen_in (M.env env.now) node.now (codes "expressions")).all) }
 {
-    match all_in_field(alloc, env, node, "expressions")? {
-        Some(values) => template(alloc, node, &values),
+    match all_in_field(alloc, env, written, node, "expressions")? {
+        Some(values) => template(alloc, written, node, &values),
         None => Ok(None),
     }
 }
@@ -140,6 +176,7 @@ fn of_template<M: Meanings>(
 fn all_in_field<M: Meanings>(
     alloc: Global,
     env: &M,
+    written: &mut TextMeter,
     node: &Node,
     name: &str,
 ) -> Result<Option<Vec<ConstantValue>>, OutOfMemory>
@@ -149,7 +186,7 @@ fn all_in_field<M: Meanings>(
 {
     match place_of(node.kind.rows(), name) {
         Some(place) => match node.parts.get(place) {
-            Some(part) => all_in_part(alloc, env, part),
+            Some(part) => all_in_part(alloc, env, written, part),
             None => Ok(None),
         },
         None => Ok(None),
@@ -161,6 +198,7 @@ fn all_in_field<M: Meanings>(
 fn all_in_part<M: Meanings>(
     alloc: Global,
     env: &M,
+    written: &mut TextMeter,
     part: &Part,
 ) -> Result<Option<Vec<ConstantValue>>, OutOfMemory>
     ensures { IfOk result
@@ -168,7 +206,7 @@ fn all_in_part<M: Meanings>(
         ≡ (seen (M.env env.now) (part_doc part.now)).all) }
 {
     match part {
-        Part::List(parts) => all_of(alloc, env, parts),
+        Part::List(parts) => all_of(alloc, env, written, parts),
         _ => Ok(None),
     }
 }
@@ -179,6 +217,7 @@ fn all_in_part<M: Meanings>(
 fn all_of<M: Meanings>(
     alloc: Global,
     env: &M,
+    written: &mut TextMeter,
     parts: &[Part],
 ) -> Result<Option<Vec<ConstantValue>>, OutOfMemory>
     ensures { IfOk result
@@ -187,7 +226,7 @@ fn all_of<M: Meanings>(
 {
     let mut values = Vec::new(alloc);
     for part in parts {
-        match of_part(alloc, env, part)? {
+        match constant_of_part(alloc, env, written, part)? {
             Some(value) => values.push(value)?,
             None => return Ok(None),
         }
@@ -195,14 +234,14 @@ fn all_of<M: Meanings>(
     Ok(Some(values))
 }
 
-/// The constant, shared.
-fn shared(value: Option<&ConstantValue>) -> Result<Option<ConstantValue>, OutOfMemory>
+/// The constant that a name means.
+fn meant(value: Option<&ConstantValue>) -> Result<Option<Operand>, OutOfMemory>
     ensures { IfOk result
-        (λ copy. option_map constant_view copy
+        (λ copy. option_map operand_view copy
         ≡ option_map (λ value. constant_view value.now) value.entry) }
 {
     match value {
-        Some(value) => Ok(Some(value.share()?)),
+        Some(value) => Ok(Some(Operand::Shared(value.share()?))),
         None => Ok(None),
     }
 }

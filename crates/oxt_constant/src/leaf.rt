@@ -56,9 +56,21 @@ pub fn string_of(alloc: Global, node: &Node) -> Result<Option<ConstantValue>, Ou
         (λ value. option_map constant_view value
         ≡ option_map string (text_in (named (codes "value") node.now.kind (docs_in node.now.parts.items)))) }
 {
-    match text_of(node, "value") {
-        Some(text) => Ok(Some(ConstantValue::Text(Name::new(alloc, text)?))),
+    match node.field("value") {
+        Some(part) => text_constant(alloc, part),
         None => Ok(None),
+    }
+}
+
+/// The text that the part is; that of a tree is not copied.
+fn text_constant(alloc: Global, part: &Part) -> Result<Option<ConstantValue>, OutOfMemory>
+    ensures { IfOk result
+        (λ value. option_map constant_view value ≡ option_map string (text_in (part_doc part.now))) }
+{
+    match part {
+        Part::Text(name) => Ok(Some(ConstantValue::Text(name.share()?))),
+        Part::Word(word) => Ok(Some(ConstantValue::Text(Name::new(alloc, word.text())?))),
+        _ => Ok(None),
     }
 }
 

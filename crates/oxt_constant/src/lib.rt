@@ -6,4 +6,6 @@ pub mod form;
 pub mod leaf;
 pub mod meanings;
 pub mod member;
+pub mod meter;
+pub mod operand;
 pub mod parts;

@@ -7,6 +7,7 @@ ghost use Rattle.oxt_tree.specs.View.{docs_in};
 
 use crate::evaluate::constant_of;
 use crate::meanings::Meanings;
+use crate::meter::TextMeter;
 use oxt_names::constant::ConstantValue;
 use oxt_names::integer::{LARGEST, apply_binary};
 use oxt_names::operator::BinaryOperator;
@@ -24,14 +25,15 @@ pub enum Before {
 }
 
 /// The constant of a member, if it has one: that of its initializer; without one the number after
-/// that of the member before, or 0 at the front.
+/// that of the member before, or 0 at the front. What is written of texts on the way to it is counted.
 ///
 /// # Errors
 ///
-/// Fails only where memory runs out.
+/// Fails only where memory runs out, or where more bytes of text would be written than may be.
 pub fn member_constant<M: Meanings>(
     alloc: Global,
     env: &M,
+    written: &mut TextMeter,
     before: &Before,
     member: &Node,
 ) -> Result<Option<ConstantValue>, OutOfMemory>
@@ -42,7 +44,7 @@ pub fn member_constant<M: Meanings>(
     match member.field("initializer") {
         None => Ok(following(before)),
         Some(Part::Nothing) => Ok(following(before)),
-        Some(Part::Node(initializer)) => constant_of(alloc, env, initializer),
+        Some(Part::Node(initializer)) => constant_of(alloc, env, written, initializer),
         _ => Ok(None),
     }
 }

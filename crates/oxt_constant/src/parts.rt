@@ -1,26 +1,27 @@
 //! The constants of expressions whose parts have been evaluated.
 ghost use Rattle.std.specs.Prelude.{◌≡◌, ◌++◌, IfOk, OnOk, Some, codes, drop, option_map, string_bytes};
 ghost use Rattle.oxt_constant.specs.Evaluated.{binary_of, constant_views, first_spelling, template_of, template_text, unary_of};
-ghost use Rattle.oxt_names.specs.Constant.{constant_view};
+ghost use Rattle.oxt_constant.specs.Operands.{operand_view};
 ghost use Rattle.oxt_tree.specs.Fields.{elements, field_of, named, text_in};
 ghost use Rattle.oxt_tree.specs.View.{docs_in, part_doc};
 
 use crate::leaf::text_of;
+use crate::meter::TextMeter;
+use crate::operand::{Operand, apply_before, apply_between, push_constant, push_text};
 use oxt_names::constant::ConstantValue;
 use oxt_names::operator::{BinaryOperator, UnaryOperator};
 use oxt_tree::ids::OutOfMemory;
-use oxt_tree::name::Name;
 use oxt_tree::tree::{Node, Part};
 use std::alloc::Global;
 
 /// What the operator of the node makes of the operand.
-pub fn unary(node: &Node, operand: &ConstantValue) -> Option<ConstantValue>
-    ensures { option_map constant_view result
-        ≡ unary_of (Some (constant_view operand.now)) (text_in (named (codes "operator") node.now.kind (docs_in node.now.parts.items))) }
+pub fn unary(node: &Node, operand: &Operand) -> Option<Operand>
+    ensures { option_map operand_view result
+        ≡ unary_of (Some (operand_view operand.now)) (text_in (named (codes "operator") node.now.kind (docs_in node.now.parts.items))) }
 {
     match text_of(node, "operator") {
-        Some(written) => match UnaryOperator::find(written) {
-            Some(operator) => operator.apply(operand),
+        Some(operator) => match UnaryOperator::find(operator) {
+            Some(operator) => apply_before(operator, operand),
             None => None,
         },
         None => None,
@@ -30,17 +31,18 @@ pub fn unary(node: &Node, operand: &ConstantValue) -> Option<ConstantValue>
 /// What the operator of the node makes of the operands.
 pub fn binary(
     alloc: Global,
+    written: &mut TextMeter,
     node: &Node,
-    left: &ConstantValue,
-    right: &ConstantValue,
-) -> Result<Option<ConstantValue>, OutOfMemory>
+    left: Operand,
+    right: &Operand,
+) -> Result<Option<Operand>, OutOfMemory>
     ensures { IfOk result
-        (λ value. option_map constant_view value
-        ≡ binary_of (Some (constant_view left.now)) (Some (constant_view right.now)) (text_in (named (codes "operator") node.now.kind (docs_in node.now.parts.items)))) }
+        (λ value. option_map operand_view value
+        ≡ binary_of (Some (operand_view left)) (Some (operand_view right.now)) (text_in (named (codes "operator") node.now.kind (docs_in node.now.parts.items)))) }
 {
     match text_of(node, "operator") {
-        Some(written) => match BinaryOperator::find(written) {
-            Some(operator) => operator.apply(alloc, left, right),
+        Some(operator) => match BinaryOperator::find(operator) {
+            Some(operator) => apply_between(alloc, written, operator, left, right),
             None => Ok(None),
         },
         None => Ok(None),
@@ -50,15 +52,16 @@ pub fn binary(
 /// The constant of a template with those constants between its texts.
 pub fn template(
     alloc: Global,
+    written: &mut TextMeter,
     node: &Node,
     values: &[ConstantValue],
-) -> Result<Option<ConstantValue>, OutOfMemory>
+) -> Result<Option<Operand>, OutOfMemory>
     ensures { IfOk result
-        (λ value. option_map constant_view value
+        (λ value. option_map operand_view value
         ≡ template_of (elements (named (codes "quasis") node.now.kind (docs_in node.now.parts.items))) (Some (constant_views values.now))) }
 {
-    match template_text(alloc, node.list("quasis"), values)? {
-        Some(text) => Ok(Some(ConstantValue::Text(Name::from_string(text)?))),
+    match template_text(alloc, written, node.list("quasis"), values)? {
+        Some(text) => Ok(Some(Operand::Made(text))),
         None => Ok(None),
     }
 }
@@ -67,6 +70,7 @@ pub fn template(
 #[tactic(auto, using(crate::proofs::Templates::steps))]
 fn template_text(
     alloc: Global,
+    written: &mut TextMeter,
     quasis: &[Part],
     values: &[ConstantValue],
 ) -> Result<Option<String>, OutOfMemory>
@@ -77,7 +81,7 @@ fn template_text(
     let mut text = String::new(alloc);
     for (i, quasi) in quasis.iter().enumerate() {
         match cooked(quasi) {
-            Some(cooked) => push_piece(alloc, &mut text, cooked, values, i)?,
+            Some(cooked) => push_piece(alloc, written, &mut text, cooked, values, i)?,
             None => return Ok(None),
         }
     }
@@ -88,6 +92,7 @@ fn template_text(
 #[tactic(auto, using(crate::proofs::Templates::spellings))]
 fn push_piece(
     alloc: Global,
+    written: &mut TextMeter,
     text: &mut String,
     cooked: &str,
     values: &[ConstantValue],
@@ -97,9 +102,9 @@ fn push_piece(
         (string_bytes text.new
         ≡ string_bytes text.old ++ (cooked.now ++ first_spelling (constant_views (drop place values.now)))) }
 {
-    text.push_str(cooked)?;
+    push_text(written, cooked, text)?;
     if place < values.len() {
-        values[place].push_to(alloc, text)?;
+        push_constant(alloc, written, &values[place], text)?;
     }
     Ok(())
 }

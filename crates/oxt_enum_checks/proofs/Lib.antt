@@ -1,8 +1,12 @@
+pub mod Blockless
 pub mod Clashes
 pub mod Leasts
+pub mod Memberless
 pub mod Names
 pub mod Namesakes
+pub mod Nothing
 pub mod Numbers
+pub mod Seeks
 pub mod ShadowLoops
 pub mod Symbols
 pub mod WideLoops

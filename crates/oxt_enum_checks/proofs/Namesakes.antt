@@ -1,5 +1,6 @@
 -- Members with the names of earlier ones, one after another.
-use Rattle.std.proofs.Common.{◌≡◌, ◌∙◌, refl, sym, ap, ℕ, ◌+◌, ◌<◌, ◌≤◌, List, [], ◌∷◌, ◌++◌, map, drop, take, length, get_or, Bool, true, false, ◌||◌, Some, None}
+use denote.Ref.{Bor}
+use Rattle.std.proofs.Common.{◌≡◌, ◌∙◌, refl, sym, ap, ℕ, ◌+◌, ◌<◌, ◌≤◌, List, [], ◌∷◌, ◌++◌, map, drop, take, length, get_or, Bool, true, false, ◌&&◌, ◌||◌, ◌==◌, Some, None}
 use Rattle.std.proofs.lemmas.List.{map-append, take_more}
 use Rattle.std.specs.List.{list_any}
 use Rattle.std.specs.Prelude.{if◌then◌else◌}
@@ -9,9 +10,14 @@ use Rattle.oxt_enum_checks.specs.Keys.{Key, is_noted, is_repeated_in, key_of, ke
 use Rattle.oxt_enum_checks.specs.Members.{Member, member_view, member_views}
 use Rattle.oxt_enum_checks.specs.Misnamed.{first_repeated, is_repeated}
 use Rattle.oxt_enum_checks.specs.declared.members.EnumMember.{EnumMember}
-use Rattle.oxt_enums.proofs.Firsts.{same_names}
-use Rattle.oxt_enums.specs.Tables.{Name}
 use Rattle.oxt_tree.proofs.Lists.{drop_at, drop_end}
+
+-- the symbol of an enum and the name of a member, as the program keeps them
+abbrev pub Name : Type 0
+Name = ℕ × Bor (List ℕ)
+
+abbrev pub same_names : Name → Name → Bool
+same_names a b = a.0 == b.0 && bytes_eq a.1.now b.1.now
 
 -- a test on a list of images
 any_image : {A B : Type 0} (p : B → Bool) (f : A → B) (xs : List A) → list_any p (map f xs) ≡ list_any (λ x. p (f x)) xs

@@ -1,5 +1,5 @@
 -- The number of a node that was found.
-use Rattle.std.proofs.Common.{◌≡◌, refl, ℕ, Option, None, Some, option_map}
+use Rattle.std.proofs.Common.{◌≡◌, ℕ, Option, None, Some, option_map}
 use Rattle.oxt_enum_checks.specs.Misused.{number_of}
 use Rattle.oxt_scopes.specs.Stack.{number_at}
 use Rattle.oxt_tree.specs.declared.ids.NodeId.{NodeId}

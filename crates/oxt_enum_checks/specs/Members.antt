@@ -1,6 +1,7 @@
 -- The members of the enums of a document, in the order of the text, outside what is erased.
-use Rattle.std.specs.Prelude.{ℕ, List, if◌then◌else◌, Option, None, Some, map, option_map, slice_get}
+use Rattle.std.specs.Prelude.{ℕ, List, if◌then◌else◌, Option, None, Some, map, slice_get}
 use Rattle.oxt_enum_checks.specs.Around.{Enum, around_view, enum_in, within}
+use Rattle.oxt_enum_checks.specs.Misused.{is_member_symbol}
 use Rattle.oxt_enum_checks.specs.declared.members.EnumMember.{EnumMember}
 use Rattle.oxt_scoping.specs.Entries.{SymbolData}
 use Rattle.oxt_scoping.specs.Scoped.{Scoped, at_node}
@@ -27,12 +28,17 @@ member_view m = record { around = around_view m.around; node = m.node.0; name = 
 abbrev pub member_views : List EnumMember → List Member
 member_views ms = map member_view ms
 
--- the name of a symbol by its number
+-- the name of a symbol, if it is that of a member
+abbrev pub name_of : Option SymbolData → Option (List ℕ)
+name_of None = None
+name_of (Some y) = if is_member_symbol (Some y) then Some y.name else None
+
+-- the same of a symbol by its number
 abbrev pub name_in : List SymbolData → Option SymbolId → Option (List ℕ)
 name_in ys None = None
-name_in ys (Some i) = option_map (λ (y : SymbolData). y.name) (slice_get ys i.0)
+name_in ys (Some i) = name_of (slice_get ys i.0)
 
--- the name that the node of that number declares
+-- the name of the member that the node of that number declares
 abbrev pub name_at : Scoped → ℕ → Option (List ℕ)
 name_at s n = name_in s.symbols (at_node (record { 0 = n }) s.declared)
 

@@ -1,5 +1,5 @@
 -- Bare names of members of enums, where the value of a member cannot stand.
-use Rattle.std.specs.Prelude.{ℕ, List, Bool, false, ◌&&◌, ◌||◌, ◌==◌, if◌then◌else◌, Option, None, Some, slice_get}
+use Rattle.std.specs.Prelude.{◌≡◌, ℕ, List, Bool, false, ◌&&◌, ◌||◌, ◌==◌, if◌then◌else◌, Option, None, Some, slice_get}
 use Rattle.std.specs.Int.RustNames.{bit_and}
 use Rattle.oxt_scoping.specs.Entries.{SymbolData}
 use Rattle.oxt_scoping.specs.Scoped.{Scoped, at_node, live_at, still}
@@ -31,6 +31,10 @@ is_member_symbol (Some y) = bit_and y.flags.0 4096 == 4096
 -- the same of a symbol by its number
 abbrev pub is_member : Scoped → Option SymbolId → Bool
 is_member s o = is_member_symbol (symbol_in s.symbols o)
+
+-- no symbol is that of a member
+abbrev pub HasNoMember : Scoped → Type 0
+HasNoMember s = (n : ℕ) → is_member_symbol (slice_get s.symbols n) ≡ false
 
 -- ---- references
 

@@ -1,5 +1,6 @@
 -- The first blocks of symbols, of those declarations that are sought.
-use Rattle.std.specs.Prelude.{ℕ, List, [], map, find, Bool, true, false, ◌&&◌, nat_eq, if◌then◌else◌, Option, None, Some, option_map, is_some, slice_get, slice_index_or, codes}
+use Rattle.std.specs.Prelude.{◌≡◌, ℕ, List, [], map, find, Bool, true, false, ◌&&◌, nat_eq, if◌then◌else◌, Option, None, Some, option_map, is_some, slice_get, slice_index_or, codes}
+use Rattle.std.specs.List.{list_any}
 use Rattle.std.specs.Map.{lookup}
 use Rattle.std.specs.Option.{option_eq}
 use Rattle.oxt_enum_checks.specs.Places.{Placed}
@@ -86,6 +87,19 @@ blocks_in s ns d = all_in (named_blocks s ns) d tt
 -- the blocks that are the first of their symbols' declarations that are sought
 abbrev pub sought_blocks : Placed → Sought → Scoped → Doc → List Block
 sought_blocks p o s d = blocks_in s (first_names p o s.symbols) d
+
+-- the declaration is a block that emits code
+abbrev pub is_emitting_block : Redeclaration → Bool
+is_emitting_block d = d.emits && is_block (sort_of d.flags)
+
+-- one of the declarations of a symbol is
+abbrev pub has_block : Option SymbolData → Bool
+has_block None = false
+has_block (Some y) = list_any is_emitting_block y.declarations
+
+-- no symbol has such a block
+abbrev pub HasNoBlock : Scoped → Type 0
+HasNoBlock s = (n : ℕ) → has_block (slice_get s.symbols n) ≡ false
 
 -- a symbol by its number, if there is one
 abbrev pub symbol_in : List SymbolData → Option SymbolId → Option SymbolData

@@ -8,7 +8,7 @@ ghost use Rattle.oxt_tree.specs.View.{node_doc};
 
 use crate::places::{Place, Places};
 use crate::sort::{Sort, is_base, is_block, is_namespace, sort_of};
-use crate::sought::{Block, Sought, sought_blocks};
+use crate::sought::{Block, Sought, has_blocks, sought_blocks};
 use oxt_scoping::entry::Redeclaration;
 use oxt_scoping::scoping::Scoping;
 use oxt_tree::ids::{NodeId, OutOfMemory};
@@ -40,6 +40,9 @@ pub fn first_clash(
     ensures { IfOk result (λ found. option_map (λ node. node.0) found
         ≡ first_clash scoping.now (node_doc program.now)) }
 {
+    if !has_blocks(scoping) {
+        return Ok(None);
+    }
     let places = Places::of_tree(alloc, program)?;
     clash_by(alloc, program, scoping, &places)
 }

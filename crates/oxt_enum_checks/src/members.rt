@@ -5,6 +5,7 @@ ghost use Rattle.oxt_enum_checks.specs.Members.{Member, member_of, member_view, 
 ghost use Rattle.oxt_tree.specs.View.{node_doc};
 
 use crate::around::{EnumAround, enum_of, within};
+use crate::misused::{has_members, is_member};
 use oxt_grammar::holds::Row;
 use oxt_grammar::kind::Kind;
 use oxt_names::ids::SymbolId;
@@ -40,6 +41,9 @@ pub fn members_of<'a>(
 ) -> Result<Vec<EnumMember<'a>>, OutOfMemory>
     ensures { IfOk result (λ v. member_views v.items ≡ members_of scoping.now (node_doc program.now)) }
 {
+    if !has_members(scoping) {
+        return Ok(Vec::new(alloc));
+    }
     all_in(alloc, &Members { scoping }, program, None)
 }
 
@@ -116,9 +120,10 @@ fn named_member<'a>(
         ≡ named_member (around_view around.entry) node.0 (name_at scoping.now node.0) }
 {
     let symbol = scoping.symbol_of(node)?;
-    Some(EnumMember {
-        around,
-        node,
-        name: scoping.symbol_name(symbol),
-    })
+    if is_member(scoping, Some(symbol)) {
+        let name = scoping.symbol_name(symbol);
+        Some(EnumMember { around, node, name })
+    } else {
+        None
+    }
 }

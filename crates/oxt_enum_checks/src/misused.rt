@@ -1,6 +1,6 @@
 //! The first bare name of a member that stands where its value cannot.
-ghost use Rattle.std.specs.Prelude.{◌≡◌, ℕ, option_map};
-ghost use Rattle.oxt_enum_checks.specs.Misused.{is_member, is_misused, is_misused_as, misused, misused_at, names_element, number_of, sought, value_use};
+ghost use Rattle.std.specs.Prelude.{◌≡◌, ℕ, false, option_map};
+ghost use Rattle.oxt_enum_checks.specs.Misused.{HasNoMember, is_member, is_misused, is_misused_as, misused, misused_at, names_element, number_of, sought, value_use};
 ghost use Rattle.oxt_scopes.specs.Stack.{number_at};
 ghost use Rattle.oxt_tree.specs.View.{node_doc};
 
@@ -23,6 +23,9 @@ use oxt_unbuilt::dropped::is_dropped;
 pub fn first_misused(program: &Node, scoping: &Scoping) -> Option<NodeId>
     ensures { number_at result ≡ misused scoping.now (node_doc program.now) }
 {
+    if !has_members(scoping) {
+        return None;
+    }
     first_in(&Misuses { scoping }, program, false)
 }
 
@@ -126,4 +129,21 @@ pub fn is_member(scoping: &Scoping, symbol: Option<SymbolId>) -> bool
         }
         None => false,
     }
+}
+
+/// Whether a symbol is that of a member of an enum. A program without members is done with at once: nothing of it can be
+/// wrong with a member. So an answer that it has some may be given freely, and is where symbols have no more numbers.
+pub fn has_members(scoping: &Scoping) -> bool
+    ensures { result ≡ false → HasNoMember scoping.now }
+{
+    for number in 0..u64::MAX {
+        let symbol = SymbolId(number);
+        if !scoping.has_symbol(symbol) {
+            return false;
+        }
+        if is_member(scoping, Some(symbol)) {
+            return true;
+        }
+    }
+    true
 }

@@ -5,6 +5,7 @@ ghost use Rattle.oxt_enum_checks.specs.Shadows.{all_among, all_shadows, initiali
 ghost use Rattle.oxt_tree.specs.View.{doc_or_nil, docs_in, node_doc, part_doc};
 
 use crate::around::{EnumAround, enum_of, within};
+use crate::misused::has_members;
 use crate::shadows::{Search, push_initializer};
 use oxt_grammar::kind::Kind;
 use oxt_names::ids::SymbolId;
@@ -37,6 +38,9 @@ pub fn first_shadowed<'a>(
 ) -> Result<Option<ShadowedName<'a>>, OutOfMemory>
     ensures { IfOk result (λ found. option_map shadow_view found ≡ shadowed scoping.now (node_doc program.now)) }
 {
+    if !has_members(scoping) {
+        return Ok(None);
+    }
     let mut out = Vec::new(alloc);
     push_node(alloc, scoping, program, None, &mut out)?;
     Ok(least(out.as_slice()))

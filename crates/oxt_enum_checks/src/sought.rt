@@ -1,6 +1,7 @@
 //! The first blocks of symbols, of those declarations that are sought.
-ghost use Rattle.std.specs.Prelude.{◌≡◌, ◌<◌, IfOk, Some, length, option_map, slice_get};
-ghost use Rattle.oxt_enum_checks.specs.Sought.{block_if, block_named, blocks_in, emits, first_at, first_name, first_names, fits, is_block_kind, is_first, is_sought, named_blocks, own_block, sought_blocks};
+ghost use Rattle.std.specs.Prelude.{◌≡◌, ◌<◌, IfOk, Some, false, length, option_map, slice_get};
+ghost use Rattle.std.specs.List.{list_any};
+ghost use Rattle.oxt_enum_checks.specs.Sought.{HasNoBlock, block_if, block_named, blocks_in, emits, first_at, first_name, first_names, fits, has_block, is_block_kind, is_emitting_block, is_first, is_sought, named_blocks, own_block, sought_blocks};
 ghost use Rattle.oxt_enum_checks.specs.Places.{places_in};
 ghost use Rattle.oxt_enum_checks.specs.declared.sought.Block.{Block};
 ghost use Rattle.oxt_tree.specs.View.{doc_or_nil, docs_in, node_doc};
@@ -230,4 +231,37 @@ fn first_at(firsts: &[Option<u64>], symbol: Option<SymbolId>) -> Option<u64>
         Some(symbol) => firsts.get(symbol.0 as usize).copied().unwrap_or(None),
         None => None,
     }
+}
+
+/// Whether a block of an enum or a namespace emits code. In a program without one no declarations clash. So an answer that
+/// it has one may be given freely, and is where symbols have no more numbers.
+pub fn has_blocks(scoping: &Scoping) -> bool
+    ensures { result ≡ false → HasNoBlock scoping.now }
+{
+    for number in 0..u64::MAX {
+        let symbol = SymbolId(number);
+        if !scoping.has_symbol(symbol) {
+            return false;
+        }
+        if has_block(scoping, symbol) {
+            return true;
+        }
+    }
+    true
+}
+
+/// Whether one of the symbol's declarations is such a block.
+#[tactic(auto, using(crate::proofs::Blockless::block_so))]
+fn has_block(scoping: &Scoping, symbol: SymbolId) -> bool
+    requires { symbol.0 < length scoping.now.symbols }
+    ensures { result ≡ has_block (slice_get scoping.now.symbols symbol.0) }
+{
+    any_block(scoping.symbol_redeclarations(symbol))
+}
+
+/// Whether one of the declarations is.
+fn any_block(declarations: &[Redeclaration]) -> bool
+    ensures { result ≡ list_any is_emitting_block declarations.now }
+{
+    declarations.iter().any(|declaration| declaration.emits && is_block(sort_of(declaration.flags)))
 }

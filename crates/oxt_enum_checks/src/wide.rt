@@ -1,38 +1,185 @@
 //! The first member whose constant would be larger than the largest.
-ghost use Rattle.std.specs.Prelude.{◌≡◌, IfOk};
-ghost use Rattle.oxt_enum_checks.specs.Wide.{wide, wide_among};
-ghost use Rattle.oxt_enums.specs.Constants.{told_views};
-ghost use Rattle.oxt_scopes.specs.Stack.{number_at};
-ghost use Rattle.oxt_tree.specs.View.{node_doc};
+ghost use Rattle.std.specs.Prelude.{◌≡◌, ◌<◌, false, length, slice_get};
+ghost use Rattle.oxt_enum_checks.specs.Wide.{ends_with_largest, has_largest_at, is_bare, is_largest, is_largest_constant, member_at, sought, value_of, wide, wide_among, wide_at, wide_in};
+ghost use Rattle.oxt_enum_checks.specs.declared.wide.WideMember.{WideMember};
+ghost use Rattle.oxt_tree.specs.View.{docs_in, node_doc, part_doc};
 
-use oxt_enums::constants::MemberConstant;
-use oxt_enums::enums::constants_of;
-use oxt_tree::ids::{NodeId, OutOfMemory};
-use oxt_tree::tree::Node;
-use std::alloc::Global;
+use crate::misused::{has_members, is_member};
+use oxt_grammar::holds::Row;
+use oxt_grammar::kind::Kind;
+use oxt_names::constant::ConstantValue;
+use oxt_names::ids::SymbolId;
+use oxt_names::integer::LARGEST;
+use oxt_scoping::scoping::Scoping;
+use oxt_search::first::first_in;
+use oxt_search::search::{Inside, Search, Visit};
+use oxt_tree::ids::{NodeId, Span};
+use oxt_tree::tree::{Node, Part};
+use oxt_unbuilt::dropped::is_dropped;
+
+/// A member whose constant would be larger than the largest.
+#[derive(Clone, Copy, Debug, PartialEq, Eq)]
+pub struct WideMember {
+    /// The number of the node.
+    pub node: NodeId,
+    /// Where it stands in the source text.
+    pub span: Span,
+}
 
 /// The first member of an enum of the program, outside what is erased, that has no initializer and stands behind
 /// a member whose constant is the largest.
-///
-/// # Errors
-///
-/// Fails only where memory runs out.
-pub fn first_wide(alloc: Global, program: &Node) -> Result<Option<NodeId>, OutOfMemory>
-    ensures { IfOk result (λ found. number_at found ≡ wide (node_doc program.now)) }
+#[tactic(auto, using(oxt_search::proofs::Given::as_it_is))]
+pub fn first_wide(program: &Node, scoping: &Scoping) -> Option<WideMember>
+    ensures { result ≡ wide scoping.now (node_doc program.now) }
 {
-    let constants = constants_of(alloc, program)?;
-    Ok(first_wide_among(constants.as_slice()))
+    if !has_members(scoping) {
+        return None;
+    }
+    first_in(&Wides { scoping }, program, None)
 }
 
-/// The same, by the constants of the members of the program.
-#[tactic(auto, using(crate::proofs::WideLoops::steps))]
-pub fn first_wide_among(constants: &[MemberConstant]) -> Option<NodeId>
-    ensures { number_at result ≡ wide_among (told_views constants.now) }
-{
-    for constant in constants {
-        if constant.is_wide {
-            return Some(constant.node);
+/// The search for such members. What is handed down is the first of the body around.
+#[derive(Clone, Copy)]
+struct Wides<'a> {
+    /// The constants of the members.
+    scoping: &'a Scoping,
+}
+
+impl<'a> Search for Wides<'a> {
+    type State = Option<WideMember>;
+
+    type Found = WideMember;
+
+    ghost Seen = { WideMember };
+
+    ghost view = { λ member. member };
+
+    ghost sought = { λ wides. sought wides.scoping.now };
+
+    #[tactic(auto, using(oxt_search::proofs::Given::as_it_is))]
+    fn visit(
+        &self,
+        node: &Node,
+        wide: Option<WideMember>,
+    ) -> Visit<WideMember, Option<WideMember>> {
+        if is_dropped(node) {
+            Visit {
+                found: None,
+                inside: Inside::Skipped,
+            }
+        } else {
+            Visit {
+                found: wide_at(wide, node.id),
+                inside: Inside::Alike(wide_in(self.scoping, node)),
+            }
         }
     }
+
+    fn in_field(
+        &self,
+        wide: Option<WideMember>,
+        _kind: Kind,
+        _row: &Row,
+    ) -> Option<Option<WideMember>> {
+        Some(wide)
+    }
+}
+
+/// The member, if the node of that number is it.
+fn wide_at(wide: Option<WideMember>, node: NodeId) -> Option<WideMember>
+    ensures { result ≡ wide_at wide node.0 }
+{
+    let wide = wide?;
+    if wide.node.0 == node.0 {
+        Some(wide)
+    } else {
+        None
+    }
+}
+
+/// The first such member of the node, if it is the body of an enum.
+fn wide_in(scoping: &Scoping, node: &Node) -> Option<WideMember>
+    ensures { result ≡ wide_in scoping.now node.now.kind (docs_in node.now.parts.items) }
+{
+    if node.kind.is(Kind::TSEnumBody) {
+        wide_among(scoping, node.list("members"))
+    } else {
+        None
+    }
+}
+
+/// The first of the members that has no initializer and stands directly behind one with the largest constant.
+#[tactic(auto, using(crate::proofs::WideLoops::steps))]
+fn wide_among(scoping: &Scoping, members: &[Part]) -> Option<WideMember>
+    ensures { result ≡ wide_among scoping.now false (docs_in members.now) }
+{
+    let mut is_behind = false;
+    for member in members {
+        if is_behind && is_bare(member) {
+            return member_at(member);
+        }
+        is_behind = ends_with_largest(scoping, member);
+    }
     None
+}
+
+/// Whether the member has no initializer.
+fn is_bare(member: &Part) -> bool
+    ensures { result ≡ is_bare (part_doc member.now) }
+{
+    match member {
+        Part::Node(member) => member.lacks("initializer"),
+        _ => false,
+    }
+}
+
+/// The number of the member, and where it stands.
+fn member_at(member: &Part) -> Option<WideMember>
+    ensures { result ≡ member_at (part_doc member.now) }
+{
+    match member {
+        Part::Node(member) => Some(WideMember {
+            node: member.id,
+            span: member.span,
+        }),
+        _ => None,
+    }
+}
+
+/// Whether the constant of the member is the largest.
+fn ends_with_largest(scoping: &Scoping, member: &Part) -> bool
+    ensures { result ≡ ends_with_largest scoping.now (part_doc member.now) }
+{
+    match member {
+        Part::Node(member) => has_largest_at(scoping, member.id),
+        _ => false,
+    }
+}
+
+/// The same of the member of that number.
+fn has_largest_at(scoping: &Scoping, member: NodeId) -> bool
+    ensures { result ≡ has_largest_at scoping.now member.0 }
+{
+    match scoping.symbol_of(member) {
+        Some(symbol) => is_member(scoping, Some(symbol)) && has_largest(scoping, symbol),
+        None => false,
+    }
+}
+
+/// Whether the constant of the symbol is the largest.
+fn has_largest(scoping: &Scoping, symbol: SymbolId) -> bool
+    requires { symbol.0 < length scoping.now.symbols }
+    ensures { result ≡ is_largest_constant (value_of (slice_get scoping.now.symbols symbol.0)) }
+{
+    match scoping.get_enum_member_value(symbol) {
+        Some(ConstantValue::Number(number)) => is_largest(*number),
+        _ => false,
+    }
+}
+
+/// Whether the number is the largest.
+fn is_largest(number: i64) -> bool
+    ensures { result ≡ is_largest number }
+{
+    0 < number && number.unsigned_abs() == LARGEST
 }

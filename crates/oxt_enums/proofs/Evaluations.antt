@@ -6,12 +6,15 @@ use Rattle.std.specs.Option.{option_and_then}
 use Rattle.std.specs.Prelude.{option_map}
 use Rattle.oxt_constant.specs.Evaluated.{Env}
 use Rattle.oxt_constant.specs.Following.{before_view, is_wide, member, member_constant}
+use Rattle.oxt_constant.specs.Metered.{most_text}
 use Rattle.oxt_constant.specs.declared.member.Before.{Before}
 use Rattle.oxt_enums.specs.Blocks.{Block, block_view}
-use Rattle.oxt_enums.specs.Constants.{Known, all_known, flat, is_emitted_block, known_behind, meanings, one_more, preceding, told, told_view, told_views}
+use Rattle.oxt_enums.specs.Constants.{Known, Told, all_known, flat, is_emitted_block, known_behind, meanings, one_more, preceding, told, told_view, told_views}
+use Rattle.oxt_enums.specs.Held.{held, held_by}
 use Rattle.oxt_enums.specs.Members.{Found, found_view, found_views}
 use Rattle.oxt_enums.specs.Tables.{Knows, Tells, home_at, owner_at, preceding_at, table_meanings, value_view}
 use Rattle.oxt_enums.specs.declared.blocks.EnumBlock.{EnumBlock}
+use Rattle.oxt_enums.specs.declared.budget.TextBudget.{TextBudget}
 use Rattle.oxt_enums.specs.declared.constants.Evaluated.{Evaluated}
 use Rattle.oxt_enums.specs.declared.constants.MemberConstant.{MemberConstant}
 use Rattle.oxt_enums.specs.declared.homes.Homes.{Homes}
@@ -82,6 +85,22 @@ pub known_end : (o : Owners) (h : Homes) (ms : List Member) (c : Evaluated) (i :
 known_end o h ms c i past so_far = subst (λ xs. Tells c (all_known (λ n. owner_at n o) (λ n. home_at n h) (found_views xs))) (take_all i ms past) so_far
 
 pub ruleset known_steps = (known_next, known_end)
+
+-- what is known of the members in front of a place, whose texts were counted
+pub record CountedTo (i : ℕ) (o : Owners) (h : Homes) (ms : List Member) (c : Evaluated) (b : TextBudget) : Type 0 where
+  pub known : KnownTo i o h ms c
+  pub counted : b.held.bytes ≡ held (told_views c.constants.items)
+  pub within : b.held.bytes ≤ most_text
+
+held_more : (ts : List Told) (t : Told) → held (ts ++ t ∷ []) ≡ held ts + held_by t.value
+held_more [] t = omega arith
+held_more (u ∷ ts) t = ap (λ n. held_by u.value + n) (held_more ts t) ∙ omega arith
+
+-- the text of one member more
+pub one_counted : (old new : List MemberConstant) (m : MemberConstant) (before after : ℕ) → new ≡ old ++ m ∷ [] → after ≡ before + held_by (value_view m.value) → before ≡ held (told_views old) → after ≡ held (told_views new)
+one_counted old new m before after pushed more so_far =
+    more ∙ ap (λ n. n + held_by (value_view m.value)) so_far
+    ∙ sym (ap (λ ms. held (told_views ms)) pushed ∙ ap held (map-append told_view old (m ∷ [])) ∙ held_more (told_views old) (told_view m))
 
 -- functions that agree at each number say the same
 pub by_functions : (o q : ℕ → Option ℕ) (h g : ℕ → Option Block) (fs gs : List Found) (c : Evaluated) → ((i : ℕ) → o i ≡ q i) → ((i : ℕ) → h i ≡ g i) → fs ≡ gs → Tells c (all_known o h fs) → Tells c (all_known q g gs)

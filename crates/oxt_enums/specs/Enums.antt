@@ -1,8 +1,10 @@
 -- The enums of a tree with the constants of their members, as contracts see them.
-use Rattle.std.specs.Prelude.{ℕ, ◌≡◌, List, Bool, false, Option, None, Some, map, option_map}
+use Rattle.std.specs.Prelude.{ℕ, ◌≡◌, ◌≤◌, List, Bool, false, Option, None, Some, map, option_map}
+use Rattle.oxt_constant.specs.Metered.{most_text}
 use Rattle.oxt_enums.specs.Blocks.{Block}
 use Rattle.oxt_enums.specs.Constants.{Known, Told, first_value, flat, has_number, is_in_body, is_in_enum, told, told_views}
 use Rattle.oxt_enums.specs.Groups.{Enum, enum_at, enum_in}
+use Rattle.oxt_enums.specs.Held.{held}
 use Rattle.oxt_enums.specs.Tables.{in_bodies, in_enums, in_numbers}
 use Rattle.oxt_enums.specs.declared.enums.EnumConstants.{EnumConstants}
 use Rattle.oxt_names.specs.Constant.{Constant}
@@ -28,9 +30,10 @@ value_in_enum n x t e = flat (in_enums n x t e.members.tables)
 abbrev pub enum_named : ℕ → List ℕ → EnumConstants → Option Enum
 enum_named n t e = enum_at n t e.groups
 
--- The table is that of these members and these blocks.
+-- The table is that of these members and these blocks, and their texts hold no more bytes than they may.
 pub record Describes (e : EnumConstants) (ks : List Known) (bs : List Block) : Type 0 where
   pub list : list_of e ≡ map told ks
+  pub within : held (list_of e) ≤ most_text
   pub numbers : (i : ℕ) → value_at i e ≡ flat (first_value (has_number i) ks)
   pub bodies : (n : ℕ) (t : List ℕ) → value_in_body n t e ≡ flat (first_value (is_in_body n t) ks)
   pub enums : (n : ℕ) (x t : List ℕ) → value_in_enum n x t e ≡ flat (first_value (is_in_enum n x t) ks)

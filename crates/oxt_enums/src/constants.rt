@@ -1,8 +1,10 @@
 //! The constants of the members of enums.
-ghost use Rattle.std.specs.Prelude.{◌≡◌, ◌&&◌, IfOk, List, OnOk, codes, option_map};
+ghost use Rattle.std.specs.Prelude.{◌≡◌, ◌≤◌, ◌&&◌, IfOk, List, OnOk, codes, option_map};
 ghost use Rattle.oxt_constant.specs.Following.{before_view, is_wide};
+ghost use Rattle.oxt_constant.specs.Metered.{most_text};
 ghost use Rattle.oxt_enums.specs.Blocks.{block_view, block_views};
-ghost use Rattle.oxt_enums.specs.Constants.{Known, all_known, block_in, is_emitted_block, one_more, owner_in};
+ghost use Rattle.oxt_enums.specs.Constants.{Known, all_known, block_in, is_emitted_block, one_more, owner_in, told_views};
+ghost use Rattle.oxt_enums.specs.Held.{held};
 ghost use Rattle.oxt_enums.specs.Members.{found_view, found_views, members_of};
 ghost use Rattle.oxt_enums.specs.Tables.{Tells, home_at, owner_at};
 ghost use Rattle.oxt_scopes.specs.OwnedViews.{owned_views};
@@ -10,6 +12,7 @@ ghost use Rattle.oxt_tree.specs.Fields.{named};
 ghost use Rattle.oxt_tree.specs.View.{docs_in, node_doc};
 
 use crate::blocks::EnumBlock;
+use crate::budget::{TextBudget, hold};
 use crate::homes::Homes;
 use crate::members::{Member, members_of};
 use crate::owners::Owners;
@@ -46,7 +49,8 @@ pub struct Evaluated<'a> {
 ///
 /// # Errors
 ///
-/// Fails only where memory runs out.
+/// Fails only where memory runs out, or where the texts of the constants would hold more bytes together than
+/// [`oxt_constant::meter::MOST_TEXT`], or as many would be written to make them.
 #[tactic(auto, using(crate::proofs::Evaluations::by_functions))]
 pub fn constants_in<'a>(
     alloc: Global,
@@ -54,7 +58,8 @@ pub fn constants_in<'a>(
     owners: &[OwnedName],
     blocks: &[EnumBlock<'a>],
 ) -> Result<Evaluated<'a>, OutOfMemory>
-    ensures { IfOk result (λ c. Tells c (all_known (owner_in (owned_views owners.now)) (block_in (block_views blocks.now)) (members_of (node_doc program.now)))) }
+    ensures within { IfOk result (λ c. held (told_views c.constants.items) ≤ most_text) }
+    ensures told { IfOk result (λ c. Tells c (all_known (owner_in (owned_views owners.now)) (block_in (block_views blocks.now)) (members_of (node_doc program.now)))) }
 {
     let members = members_of(alloc, program)?;
     let owners = Owners::new(alloc, owners)?;
@@ -70,14 +75,16 @@ fn evaluate<'a>(
     homes: &Homes<'a>,
     members: &[Member<'a>],
 ) -> Result<Evaluated<'a>, OutOfMemory>
-    ensures { IfOk result (λ c. Tells c (all_known (λ i. owner_at i owners.now) (λ i. home_at i homes.now) (found_views members.now))) }
+    ensures within { IfOk result (λ c. held (told_views c.constants.items) ≤ most_text) }
+    ensures told { IfOk result (λ c. Tells c (all_known (λ i. owner_at i owners.now) (λ i. home_at i homes.now) (found_views members.now))) }
 {
     let mut known = Evaluated {
         constants: Vec::new(alloc),
         tables: Tables::new(alloc),
     };
+    let mut budget = TextBudget::new();
     for member in members {
-        known.add(alloc, owners, homes, member)?;
+        known.add(alloc, owners, homes, &mut budget, member)?;
     }
     Ok(known)
 }
@@ -89,17 +96,22 @@ impl<'a> Evaluated<'a> {
         alloc: Global,
         owners: &Owners,
         homes: &Homes<'a>,
+        budget: &mut TextBudget,
         member: &Member<'a>,
     ) -> Result<(), OutOfMemory>
-        ensures { OnOk result ((ks : List Known) → Tells self.old ks
+        ensures told { OnOk result ((ks : List Known) → Tells self.old ks
             → Tells self.new (one_more (λ i. owner_at i owners.now) (λ i. home_at i homes.now) ks (found_view member.now))) }
+        ensures counted { OnOk result (budget.old.held.bytes ≡ held (told_views self.old.constants.items)
+            → budget.new.held.bytes ≡ held (told_views self.new.constants.items)) }
+        ensures within { OnOk result (budget.new.held.bytes ≤ most_text) }
     {
         let block = homes.block_of(member.place.block);
         let before = self.tables.before(member.place.previous)?;
         let is_wide = is_wide_in(block, &before, member.node);
         let value = self
             .tables
-            .value_behind(alloc, owners, &before, member.node)?;
+            .value_behind(alloc, owners, &mut budget.written, &before, member.node)?;
+        hold(&mut budget.held, &value)?;
         self.tables.put(block, member, &value)?;
         self.constants.push(MemberConstant {
             node: member.node.id,

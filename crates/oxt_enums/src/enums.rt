@@ -1,9 +1,11 @@
 //! The enums of a tree, and the constants of their members.
-ghost use Rattle.std.specs.Prelude.{◌≡◌, IfOk, find, map, option_map};
+ghost use Rattle.std.specs.Prelude.{◌≡◌, ◌≤◌, IfOk, find, map, option_map};
+ghost use Rattle.oxt_constant.specs.Metered.{most_text};
 ghost use Rattle.oxt_enums.specs.Blocks.{blocks_in};
 ghost use Rattle.oxt_enums.specs.Constants.{constants, known_in, told_views};
 ghost use Rattle.oxt_enums.specs.Enums.{Describes, bodies_of, enum_named, is_too_large, list_of, place_of, says_const, span_view, value_at, value_in_body, value_in_enum};
 ghost use Rattle.oxt_enums.specs.Groups.{number_of};
+ghost use Rattle.oxt_enums.specs.Held.{held};
 ghost use Rattle.oxt_scopes.specs.OwnedViews.{owned_views};
 ghost use Rattle.oxt_scopes.specs.Views.{opened_views};
 ghost use Rattle.oxt_names.specs.Constant.{constant_view};
@@ -30,9 +32,11 @@ pub struct EnumConstants<'a> {
 ///
 /// # Errors
 ///
-/// Fails only where memory runs out.
+/// Fails only where memory runs out, or where the texts of the constants would hold more bytes together than
+/// [`oxt_constant::meter::MOST_TEXT`], or as many would be written to make them.
 pub fn constants_of(alloc: Global, program: &Node) -> Result<Vec<MemberConstant>, OutOfMemory>
-    ensures { IfOk result (λ v. told_views v.items ≡ constants (node_doc program.now)) }
+    ensures within { IfOk result (λ v. held (told_views v.items) ≤ most_text) }
+    ensures constants { IfOk result (λ v. told_views v.items ≡ constants (node_doc program.now)) }
 {
     let owners = owners_of(alloc, program)?;
     let scopes = scopes_of(alloc, program)?;
@@ -45,7 +49,8 @@ impl<'a> EnumConstants<'a> {
     ///
     /// # Errors
     ///
-    /// Fails only where memory runs out.
+    /// Fails only where memory runs out, or where the texts of the constants would hold more bytes together than
+    /// [`oxt_constant::meter::MOST_TEXT`], or as many would be written to make them.
     pub fn of(
         alloc: Global,
         program: &'a Node,

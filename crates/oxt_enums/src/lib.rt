@@ -2,6 +2,7 @@
 #![tactic(auto)]
 
 pub mod blocks;
+pub mod budget;
 pub mod constants;
 pub mod enums;
 pub mod groups;

@@ -19,6 +19,7 @@ use crate::names::Names;
 use crate::owners::Owners;
 use indexmap::IndexMap;
 use oxt_constant::member::{Before, member_constant};
+use oxt_constant::meter::TextMeter;
 use oxt_names::constant::ConstantValue;
 use oxt_tree::ids::{NodeId, OutOfMemory};
 use oxt_tree::tree::Node;
@@ -71,6 +72,7 @@ impl<'a> Tables<'a> {
         &self,
         alloc: Global,
         owners: &Owners,
+        written: &mut TextMeter,
         before: &Before,
         member: &Node,
     ) -> Result<Option<ConstantValue>, OutOfMemory>
@@ -81,7 +83,7 @@ impl<'a> Tables<'a> {
             owners,
             tables: self,
         };
-        member_constant(alloc, &names, before, member)
+        member_constant(alloc, &names, written, before, member)
     }
 
     /// What stands in front of a member, by the number of that.

@@ -1,6 +1,8 @@
 pub mod Bindings
+pub mod Declared
 pub mod Differences
 pub mod Elements
+pub mod Nests
 pub mod Numbers
 pub mod Sameness
 pub mod Shares

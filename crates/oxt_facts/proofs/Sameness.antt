@@ -1,5 +1,5 @@
 -- What it means that atoms, and items, are one.
-use Rattle.std.proofs.Common.{◌≡◌, ◌∙◌, refl, sym, ap, ℕ, suc, ◌+◌, ◌<◌, ◌≤◌, List, [], ◌∷◌, map, length, drop, get_or, Bool, true, false, ◌&&◌}
+use Rattle.std.proofs.Common.{◌≡◌, ◌∙◌, refl, sym, ap, ℕ, suc, ◌+◌, ◌<◌, ◌≤◌, List, [], ◌∷◌, map, length, drop, get_or, Bool, true, false, ◌&&◌, Option}
 use Rattle.std.proofs.lemmas.Bool.Decides.{Decides-eqb}
 use Rattle.std.proofs.lemmas.Slice.Eq.{bytes_eq-Decides}
 use Rattle.oxt_grammar.specs.Kinds.{name_of}
@@ -8,7 +8,7 @@ use Rattle.oxt_tree.proofs.Lists.{drop_at, drop_end}
 use Rattle.oxt_tree.specs.Doc.{Doc, nil, flag, number, text, list, node}
 use Rattle.oxt_tree.specs.Fields.{is_nil, is_text}
 use Rattle.oxt_tree.specs.Names.{name_bytes}
-use Rattle.oxt_facts.specs.Compare.{is_flag, is_number, same_atom, same_atoms}
+use Rattle.oxt_facts.specs.Compare.{is_flag, is_number, same_atom, same_atoms, without_group}
 use Rattle.oxt_facts.specs.Entry.{Entry, atom_doc, binding_text, entry_of}
 use Rattle.oxt_facts.specs.declared.item.Atom.{Atom}
 use Rattle.oxt_facts.specs.declared.item.Atom.TheVariants as atom
@@ -86,18 +86,28 @@ atoms_lengths (x ∷ xs) (y ∷ ys) h = step (same_atom (atom_doc x) (atom_doc y
     step true e = e
     step false e = refl
 
--- Two items are one where their kinds, spellings and details are.
-pub item_same : (a b : Item) → a.kind ≡ b.kind → same_atom (atom_doc a.spelling) (atom_doc b.spelling) ≡ true → same_atoms (map atom_doc a.details.items) (map atom_doc b.details.items) ≡ true → entry_of a ≡ entry_of b
-item_same a b m s d =
+-- Two items are one but for their groups where their kinds, spellings and details are.
+pub rest_same : (a b : Item) → a.kind ≡ b.kind → same_atom (atom_doc a.spelling) (atom_doc b.spelling) ≡ true → same_atoms (map atom_doc a.details.items) (map atom_doc b.details.items) ≡ true → without_group (entry_of a) ≡ without_group (entry_of b)
+rest_same a b m s d =
     let spelling = atom_same (atom_doc a.spelling) (atom_doc b.spelling) s in
     let details = atoms_same (map atom_doc a.details.items) (map atom_doc b.details.items) d in
     cc
 
-pub kind_of : (a b : Item) → entry_of a ≡ entry_of b → a.kind ≡ b.kind
+pub kind_of : (a b : Item) → without_group (entry_of a) ≡ without_group (entry_of b) → a.kind ≡ b.kind
 kind_of a b e = ap (λ (x : Entry). x.kind) e
 
-pub spelling_of : (a b : Item) → entry_of a ≡ entry_of b → same_atom (atom_doc a.spelling) (atom_doc b.spelling) ≡ true
+pub spelling_of : (a b : Item) → without_group (entry_of a) ≡ without_group (entry_of b) → same_atom (atom_doc a.spelling) (atom_doc b.spelling) ≡ true
 spelling_of a b e = ap (λ (x : Entry). same_atom (atom_doc a.spelling) x.spelling) (sym e) ∙ atom_self a.spelling
 
-pub details_of : (a b : Item) → entry_of a ≡ entry_of b → same_atoms (map atom_doc a.details.items) (map atom_doc b.details.items) ≡ true
+pub details_of : (a b : Item) → without_group (entry_of a) ≡ without_group (entry_of b) → same_atoms (map atom_doc a.details.items) (map atom_doc b.details.items) ≡ true
 details_of a b e = ap (λ (x : Entry). same_atoms (map atom_doc a.details.items) x.details) (sym e) ∙ atoms_self a.details.items
+
+-- They are one where their groups are one too.
+pub item_same : (a b : Item) → a.group ≡ b.group → without_group (entry_of a) ≡ without_group (entry_of b) → entry_of a ≡ entry_of b
+item_same a b g e = ap (λ (x : Entry). record x { group = a.group }) e ∙ ap (λ (h : Option ℕ). record (entry_of b) { group = h }) g
+
+pub group_of : (a b : Item) → entry_of a ≡ entry_of b → a.group ≡ b.group
+group_of a b e = ap (λ (x : Entry). x.group) e
+
+pub rest_of : (a b : Item) → entry_of a ≡ entry_of b → without_group (entry_of a) ≡ without_group (entry_of b)
+rest_of a b e = ap without_group e

@@ -35,3 +35,13 @@ same_atoms (c ∷ cs) (d ∷ ds) = same_atom c d && same_atoms cs ds
 abbrev pub IsFirstDifference : List Entry → List Entry → Option ℕ → Type 0
 IsFirstDifference a b None = a ≡ b
 IsFirstDifference a b (Some i) = (take i a ≡ take i b) × (slice_get a i ≢ slice_get b i)
+
+-- an item without the group of its name
+abbrev pub without_group : Entry → Entry
+without_group e = record e { group = None }
+
+-- Both are there, and one but for the groups of their names.
+abbrev pub IsOfOwners : Option Entry → Option Entry → Type 0
+IsOfOwners None b = ⊥
+IsOfOwners (Some a) None = ⊥
+IsOfOwners (Some a) (Some b) = without_group a ≡ without_group b

@@ -1,5 +1,5 @@
 -- The items of a word, as contracts see them.
-use Rattle.std.specs.Prelude.{ℕ, List, [], ◌∷◌, codes, map}
+use Rattle.std.specs.Prelude.{ℕ, List, [], ◌∷◌, Option, None, codes, map}
 use Rattle.oxt_grammar.specs.Kinds.{name_of}
 use Rattle.oxt_grammar.specs.Words.{text_of}
 use Rattle.oxt_tree.specs.Doc.{Doc, nil, flag, number, text, list, node}
@@ -11,14 +11,20 @@ use Rattle.oxt_facts.specs.declared.item.Binding.TheVariants as binding
 use Rattle.oxt_facts.specs.declared.item.Item.{Item}
 use Rattle.oxt_facts.specs.declared.item.ItemKind.{ItemKind}
 
--- what it stands for, what it is spelled, and further texts and flags
+-- what it stands for, what it is spelled, further texts and flags, and the group that a name means or declares: none
+-- where the name is free, and for what is no name
 pub record Entry : Type 0 where
   pub kind : ItemKind
   pub spelling : Doc
   pub details : List Doc
+  pub group : Option ℕ
+
+-- an item of a name with that group
+abbrev pub entry_in : Option ℕ → ItemKind → Doc → List Doc → Entry
+entry_in g m s ds = record { kind = m; spelling = s; details = ds; group = g }
 
 abbrev pub entry : ItemKind → Doc → List Doc → Entry
-entry m s ds = record { kind = m; spelling = s; details = ds }
+entry m s ds = entry_in None m s ds
 
 -- an item that is not spelled
 abbrev pub lone : ItemKind → List Entry
@@ -31,6 +37,10 @@ spelled m s = entry m s [] ∷ []
 -- an item with that spelling and these further texts and flags
 abbrev pub detailed : ItemKind → Doc → List Doc → List Entry
 detailed m s ds = entry m s ds ∷ []
+
+-- the same, of a name with that group
+abbrev pub owned : Option ℕ → ItemKind → Doc → List Doc → List Entry
+owned g m s ds = entry_in g m s ds ∷ []
 
 -- what a name is declared as
 abbrev pub binding_text : Binding → List ℕ
@@ -56,7 +66,7 @@ atom_doc (atom.Kind k) = text (name_of k)
 atom_doc (atom.Binding b) = text (binding_text b)
 
 abbrev pub entry_of : Item → Entry
-entry_of i = entry i.kind (atom_doc i.spelling) (map atom_doc i.details.items)
+entry_of i = entry_in i.group i.kind (atom_doc i.spelling) (map atom_doc i.details.items)
 
 -- the items of a list
 abbrev pub entries : List Item → List Entry

@@ -8,8 +8,9 @@ use Rattle.oxt_grammar.specs.declared.kind.Kind.TheVariants as kind
 use Rattle.oxt_tree.specs.Doc.{Doc, nil, flag, number, text, list, node, Docs, no_docs, doc}
 use Rattle.oxt_tree.specs.Fields.{docs_list, elements, field_of, is_kind, is_text, named, text_in}
 use Rattle.oxt_names.specs.Made.{added}
-use Rattle.oxt_facts.specs.Facts.{Known, in_class, is_made}
+use Rattle.oxt_facts.specs.Facts.{Known, in_block, in_class, is_made}
 use Rattle.oxt_facts.specs.Privates.{Privates, no_privates, stored_by}
+use Rattle.oxt_facts.specs.Told.{Telling, block, told_of}
 
 -- wrappers, parentheses and sequences, of which a part is the key
 abbrev pub holds_key : Kind → Bool
@@ -83,12 +84,21 @@ is_told f k ds =
     && (not (nat_eq (length f.classes) 0)
     || list_any (λ d. is_some (setter_name f d)) (docs_list (elements (named (codes "body") k ds))))
 
--- what is known inside a node
-abbrev pub inside : Known → Kind → Docs → Known
-inside f k ds =
+-- what is known inside a node that may be the body of a class
+abbrev pub inside_class : Known → Kind → Docs → Known
+inside_class f k ds =
     if is_told f k ds
     then in_class (privates_of f (elements (named (codes "body") k ds)) no_privates) f
     else f
+
+-- what is known inside a node of which that is told
+abbrev pub inside_told : Known → Option Telling → Kind → Docs → Known
+inside_told f (Some (block b)) k ds = in_block b f
+inside_told f t k ds = inside_class f k ds
+
+-- what is known inside the node of that number
+abbrev pub inside : Known → ℕ → Kind → Docs → Known
+inside f i k ds = inside_told f (told_of f.told i) k ds
 
 -- what is known then, if more is
 abbrev pub known_or : Known → Option Known → Known

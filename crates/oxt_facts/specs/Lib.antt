@@ -1,8 +1,10 @@
 pub mod Compare
 pub mod Entry
 pub mod Facts
+pub mod Groups
 pub mod Inside
 pub mod ItemKinds
+pub mod Owners
 pub mod Privates
 pub mod Shared
 pub mod Tags

@@ -4,7 +4,7 @@ use Rattle.std.specs.List.{list_any, position_or_len}
 use Rattle.std.specs.Str.{bytes_eq}
 use Rattle.oxt_tree.specs.Doc.{Doc, number}
 use Rattle.oxt_tree.specs.Fields.{text_in}
-use Rattle.oxt_facts.specs.Entry.{Entry, entry}
+use Rattle.oxt_facts.specs.Entry.{Entry}
 use Rattle.oxt_facts.specs.declared.item.ItemKind.{ItemKind}
 use Rattle.oxt_facts.specs.declared.item.ItemKind.TheVariants as item
 
@@ -29,7 +29,7 @@ noted ts (Some t) = if list_any (bytes_eq t) ts then ts else ts ++ t ∷ []
 -- an item with its tag as the number of those that were met before it first
 abbrev pub with_number : List (List ℕ) → Entry → Option (List ℕ) → Entry
 with_number ts e None = e
-with_number ts e (Some t) = entry e.kind (number (position_or_len (bytes_eq t) ts)) e.details
+with_number ts e (Some t) = record e { spelling = number (position_or_len (bytes_eq t) ts) }
 
 -- items with their tags numbered by their first occurrence, behind those that were met
 abbrev pub numbered : List (List ℕ) → List Entry → List Entry

@@ -1,7 +1,7 @@
 //! Comparing words.
 ghost use Rattle.std.specs.Prelude.{◌≡◌, ◌↔◌, IfSome, IsTrue, map, option_map, slice_get};
 ghost use Rattle.oxt_tree.specs.Fields.{is_nil, is_text};
-ghost use Rattle.oxt_facts.specs.Compare.{is_flag, is_number, same_atom, same_atoms, IsFirstDifference};
+ghost use Rattle.oxt_facts.specs.Compare.{is_flag, is_number, same_atom, same_atoms, without_group, IsFirstDifference, IsOfOwners};
 ghost use Rattle.oxt_facts.specs.Entry.{atom_doc, entries, entry_of};
 
 use crate::item::{Atom, Item, ItemKind};
@@ -12,6 +12,22 @@ pub struct Difference<'w> {
     pub index: usize,
     pub source: Option<&'w Item>,
     pub output: Option<&'w Item>,
+}
+
+impl<'w> Difference<'w> {
+    /// Whether the two items differ in the groups of their names alone.
+    pub fn is_of_owners(&self) -> bool
+        ensures { IsTrue result ↔ IsOfOwners (option_map (λ item. entry_of item.now) self.now.source)
+            (option_map (λ item. entry_of item.now) self.now.output) }
+    {
+        match self.source {
+            Some(source) => match self.output {
+                Some(output) => same_but_group(source, output),
+                None => false,
+            },
+            None => false,
+        }
+    }
 }
 
 /// The first place at which the word of an output differs from that of its source, one of them having
@@ -54,12 +70,27 @@ fn first_index(a: &[Item], b: &[Item]) -> Option<usize>
 }
 
 /// Whether both are one item.
-#[tactic(auto, using(crate::proofs::Sameness::item_same, crate::proofs::Sameness::kind_of, crate::proofs::Sameness::spelling_of, crate::proofs::Sameness::details_of))]
+#[tactic(auto, using(crate::proofs::Sameness::item_same, crate::proofs::Sameness::group_of, crate::proofs::Sameness::rest_of))]
 fn same_item(a: &Item, b: &Item) -> bool
     ensures { IsTrue result ↔ entry_of a.now ≡ entry_of b.now }
 {
+    same_group(a.group, b.group) && same_but_group(a, b)
+}
+
+/// Whether both are one item but for the groups of their names.
+#[tactic(auto, using(crate::proofs::Sameness::rest_same, crate::proofs::Sameness::kind_of, crate::proofs::Sameness::spelling_of, crate::proofs::Sameness::details_of))]
+fn same_but_group(a: &Item, b: &Item) -> bool
+    ensures { IsTrue result ↔ without_group (entry_of a.now) ≡ without_group (entry_of b.now) }
+{
     same_kind(a.kind, b.kind)
         && (same_atom(&a.spelling, &b.spelling) && same_atoms(&a.details, &b.details))
+}
+
+/// Whether both are one group, or none.
+fn same_group(a: Option<u64>, b: Option<u64>) -> bool
+    ensures { IsTrue result ↔ a ≡ b }
+{
+    a == b
 }
 
 /// Whether both are one kind.

@@ -3,13 +3,15 @@ ghost use Rattle.std.specs.Prelude.{◌≡◌, ◌++◌, ◌∷◌, [], IfOk, On
 ghost use Rattle.oxt_tree.specs.Fields.{named, text_in};
 ghost use Rattle.oxt_tree.specs.View.{docs_in, node_doc, part_doc};
 ghost use Rattle.oxt_names.specs.Made.{all_added, added, is_among};
-ghost use Rattle.oxt_facts.specs.Facts.{bindings, bindings_of_each, in_class, is_made, is_new, of_output, of_source, of_told_source, own_binding};
-ghost use Rattle.oxt_facts.specs.Told.{told_of, told_view};
+ghost use Rattle.oxt_facts.specs.Facts.{bindings, bindings_of_each, group_at, group_here, in_block, in_class, is_made, is_new, made_in, of_output, of_source, of_told_source, own_binding};
+ghost use Rattle.oxt_facts.specs.Owners.{inner_group, owner_in};
+ghost use Rattle.oxt_facts.specs.Told.{block_view, told_of, told_view};
 ghost use Rattle.oxt_facts.specs.Privates.{stored_by, stored_in};
-ghost use Rattle.oxt_facts.specs.Shared.{all_shared, names_shared, told_shared};
+ghost use Rattle.oxt_facts.specs.Shared.{all_shared};
 
+use crate::owners::NameGroups;
 use crate::privates::ClassPrivates;
-use crate::told::{Told, ToldNodes};
+use crate::told::{Told, ToldBlock, ToldNodes};
 use oxt_grammar::kind::Kind;
 use oxt_names::uid::UidNames;
 use oxt_tree::ids::{NodeId, OutOfMemory};
@@ -22,69 +24,102 @@ use std::rc::Rc;
 #[derive(Drop)]
 pub struct Facts {
     alloc: Global,
-    is_source: bool,
-    told: Option<Rc<ToldNodes>>,
-    made: Option<Rc<UidNames>>,
+    tree: Rc<TreeFacts>,
     classes: Vec<Rc<ClassPrivates>>,
+    blocks: Vec<Inner>,
+}
+
+/// What is known of a tree at all its places.
+#[derive(Drop)]
+struct TreeFacts {
+    is_source: bool,
+    told: ToldNodes,
+    made: UidNames,
+    groups: NameGroups,
+}
+
+/// A block of an enum around a place: the group of the enum's name, and the block's number, by which the parameter of its
+/// function goes.
+#[derive(Clone, Copy, Debug)]
+pub struct Inner {
+    pub group: u64,
+    pub block: u64,
 }
 
 impl Model for Facts {
     ghost use Rattle.oxt_facts.specs.Facts.{Known};
-    ghost use Rattle.oxt_facts.specs.Shared.{all_shared, names_shared, told_shared};
+    ghost use Rattle.oxt_facts.specs.Shared.{all_shared};
 
     ghost Value = { Known };
 
-    ghost view = { λ facts. record { is_source = facts.is_source; told = told_shared facts.told; made = names_shared facts.made; classes = all_shared facts.classes.items } };
+    ghost view = { λ facts. record { is_source = facts.tree.value.is_source; told = facts.tree.value.told; made = facts.tree.value.made; owners = facts.tree.value.groups; classes = all_shared facts.classes.items; blocks = facts.blocks.items } };
 }
 
 impl Facts {
-    /// Of a source, in which no name is made, and of whose nodes nothing is told.
-    pub fn of_source(alloc: Global) -> Facts
-        ensures { result ≡ of_source }
-    {
-        Facts {
-            alloc,
-            is_source: true,
-            told: None,
-            made: None,
-            classes: Vec::new(alloc),
-        }
-    }
-
-    /// Of a source, in which no name is made, and of whose nodes that is told.
+    /// Of a source, in which no name is made, of whose nodes nothing is told, and the groups of whose names are not known.
     ///
     /// # Errors
     ///
     /// Fails only where memory runs out.
-    pub fn of_told_source(alloc: Global, told: ToldNodes) -> Result<Facts, OutOfMemory>
-        ensures { IfOk result (λ facts. facts ≡ of_told_source told) }
+    pub fn of_source(alloc: Global) -> Result<Facts, OutOfMemory>
+        ensures { IfOk result (λ facts. facts ≡ of_source) }
     {
-        Ok(Facts {
-            alloc,
-            is_source: true,
-            told: Some(Rc::new(alloc, told)?),
-            made: None,
-            classes: Vec::new(alloc),
-        })
+        Facts::of_told_source(alloc, ToldNodes::new(alloc), NameGroups::new(alloc))
     }
 
-    /// Of what was made of a source that has these names: a name is made where a binding of the output
-    /// has it, and the source does not.
+    /// Of a source, in which no name is made, of whose nodes that is told, and whose names have these groups.
     ///
     /// # Errors
     ///
     /// Fails only where memory runs out.
-    pub fn of_output(alloc: Global, names: &UidNames, output: &Node) -> Result<Facts, OutOfMemory>
-        ensures { IfOk result (λ facts. facts ≡ of_output names.now (node_doc output.now)) }
+    pub fn of_told_source(
+        alloc: Global,
+        told: ToldNodes,
+        groups: NameGroups,
+    ) -> Result<Facts, OutOfMemory>
+        ensures { IfOk result (λ facts. facts ≡ of_told_source told groups) }
     {
-        let mut made = UidNames::new(alloc);
-        take_in_node(names, output, &mut made)?;
-        Ok(Facts {
-            alloc,
+        let tree = TreeFacts {
+            is_source: true,
+            told,
+            made: UidNames::new(alloc),
+            groups,
+        };
+        Facts::of_tree(alloc, tree)
+    }
+
+    /// Of what was made of a source that has these names, where its own names have these groups: a name is made where a
+    /// binding of the output has it, and the source does not.
+    ///
+    /// # Errors
+    ///
+    /// Fails only where memory runs out.
+    pub fn of_output(
+        alloc: Global,
+        names: &UidNames,
+        groups: NameGroups,
+        output: &Node,
+    ) -> Result<Facts, OutOfMemory>
+        ensures { IfOk result (λ facts. facts ≡ of_output names.now groups (node_doc output.now)) }
+    {
+        let tree = TreeFacts {
             is_source: false,
-            told: None,
-            made: Some(Rc::new(alloc, made)?),
+            told: ToldNodes::new(alloc),
+            made: made_in(alloc, names, output)?,
+            groups,
+        };
+        Facts::of_tree(alloc, tree)
+    }
+
+    /// What is known at the root of a tree of which that is known.
+    fn of_tree(alloc: Global, tree: TreeFacts) -> Result<Facts, OutOfMemory>
+        ensures { IfOk result (λ facts. facts ≡ record { is_source = tree.is_source; told = tree.told; made = tree.made; owners = tree.groups; classes = []; blocks = [] }) }
+    {
+        Ok(Facts {
+            alloc,
+            tree: Rc::new(alloc, tree)?,
             classes: Vec::new(alloc),
+            blocks: Vec::new(alloc),
         })
     }
 
@@ -97,15 +132,37 @@ impl Facts {
     pub fn is_source(&self) -> bool
         ensures { result ≡ self.now.is_source }
     {
-        self.is_source
+        self.tree.is_source
     }
 
     /// What is told of the node.
     pub fn told_of(&self, node: NodeId) -> Option<&Told>
         ensures { option_map (λ told. told_view told.now) result ≡ told_of self.now.told node.0 }
     {
-        match &self.told {
-            Some(told) => told.of(node),
+        self.tree.told.of(node)
+    }
+
+    /// The group that the node declares.
+    pub fn declared_group(&self, node: NodeId) -> Option<u64>
+        ensures { result ≡ owner_in self.now.owners node.0 }
+    {
+        self.tree.groups.of(node)
+    }
+
+    /// The group that the name means which is the node.
+    pub fn group_of(&self, node: NodeId) -> Option<u64>
+        ensures { result ≡ group_at self.now node.0 }
+    {
+        self.group_here(self.declared_group(node))
+    }
+
+    /// What a name of that group means here: inside a block of an enum that becomes a function, the enum's own name is the
+    /// parameter of that.
+    pub fn group_here(&self, group: Option<u64>) -> Option<u64>
+        ensures { result ≡ group_here self.now group }
+    {
+        match group {
+            Some(group) => Some(inner_group(self.blocks.as_slice(), group)),
             None => None,
         }
     }
@@ -125,10 +182,19 @@ impl Facts {
     fn has_made(&self, name: &str) -> bool
         ensures { result ≡ is_among name.now self.now.made }
     {
-        match &self.made {
-            Some(made) => made.has(name),
-            None => false,
-        }
+        self.tree.made.has(name)
+    }
+
+    /// The same.
+    fn again(&self) -> Result<Facts, OutOfMemory>
+        ensures { IfOk result (λ facts. facts ≡ self.now) }
+    {
+        Ok(Facts {
+            alloc: self.alloc,
+            tree: self.tree.clone()?,
+            classes: shared_classes(&self.classes)?,
+            blocks: self.blocks.clone()?,
+        })
     }
 
     /// The same inside a class that has these private names.
@@ -136,16 +202,32 @@ impl Facts {
     /// # Errors
     ///
     /// Fails only where memory runs out.
+    #[tactic(auto, using(crate::proofs::Shares::one_more))]
     pub fn in_class(&self, class: ClassPrivates) -> Result<Facts, OutOfMemory>
         ensures { IfOk result (λ facts. facts ≡ in_class class self.now) }
     {
-        Ok(Facts {
-            alloc: self.alloc,
-            is_source: self.is_source,
-            told: told_again(&self.told)?,
-            made: shared_again(&self.made)?,
-            classes: with_class(self.alloc, &self.classes, class)?,
-        })
+        let mut inner = self.again()?;
+        let class = Rc::new(self.alloc, class)?;
+        inner.classes.push(class)?;
+        Ok(inner)
+    }
+
+    /// The same inside a block of an enum that becomes a function.
+    ///
+    /// # Errors
+    ///
+    /// Fails only where memory runs out.
+    pub fn in_block(&self, block: &ToldBlock) -> Result<Facts, OutOfMemory>
+        ensures { IfOk result (λ facts. facts ≡ in_block (block_view block.now) self.now) }
+    {
+        let mut inner = self.again()?;
+        if let Some(group) = block.group {
+            inner.blocks.push(Inner {
+                group,
+                block: block.node,
+            })?;
+        }
+        Ok(inner)
     }
 
     /// Whether no class stands around the place, as far as is known.
@@ -161,6 +243,30 @@ impl Facts {
     {
         look_inwards(self.classes.as_slice(), name)
     }
+}
+
+/// The group of the parameter of the innermost of the blocks whose enum's name has the group; the group itself where there
+/// is none.
+#[tactic(auto, using(crate::proofs::Nests::steps))]
+fn inner_group(blocks: &[Inner], group: u64) -> u64
+    ensures { result ≡ inner_group blocks.now group }
+{
+    let mut found = group;
+    for block in blocks {
+        if block.group == group {
+            found = block.block;
+        }
+    }
+    found
+}
+
+/// The names that the output binds and the source has not.
+fn made_in(alloc: Global, names: &UidNames, output: &Node) -> Result<UidNames, OutOfMemory>
+    ensures { IfOk result (λ made. made ≡ made_in names.now (node_doc output.now)) }
+{
+    let mut made = UidNames::new(alloc);
+    take_in_node(names, output, &mut made)?;
+    Ok(made)
 }
 
 /// What the innermost of the classes that has the private name says of it.
@@ -187,46 +293,12 @@ fn said_by<'a>(class: &ClassPrivates, name: &'a str, outer: Option<&'a str>) -> 
     }
 }
 
-/// The classes and that one inside them.
-#[tactic(auto, using(crate::proofs::Shares::one_more))]
-fn with_class(
-    alloc: Global,
-    classes: &Vec<Rc<ClassPrivates>>,
-    class: ClassPrivates,
-) -> Result<Vec<Rc<ClassPrivates>>, OutOfMemory>
-    ensures { IfOk result (λ v. all_shared v.items ≡ all_shared classes.now.items ++ class ∷ []) }
-{
-    let mut more = shared_classes(classes)?;
-    more.push(Rc::new(alloc, class)?)?;
-    Ok(more)
-}
-
 /// Other references to the same classes.
 #[tactic(auto, using(crate::proofs::Shares::same_shared))]
 fn shared_classes(classes: &Vec<Rc<ClassPrivates>>) -> Result<Vec<Rc<ClassPrivates>>, OutOfMemory>
     ensures { IfOk result (λ v. all_shared v.items ≡ all_shared classes.now.items) }
 {
     Ok(classes.clone()?)
-}
-
-/// Another reference to the same.
-fn told_again(told: &Option<Rc<ToldNodes>>) -> Result<Option<Rc<ToldNodes>>, OutOfMemory>
-    ensures { IfOk result (λ again. told_shared again ≡ told_shared told.now) }
-{
-    match told {
-        Some(told) => Ok(Some(told.clone()?)),
-        None => Ok(None),
-    }
-}
-
-/// Another reference to the same names.
-fn shared_again(names: &Option<Rc<UidNames>>) -> Result<Option<Rc<UidNames>>, OutOfMemory>
-    ensures { IfOk result (λ again. names_shared again ≡ names_shared names.now) }
-{
-    match names {
-        Some(names) => Ok(Some(names.clone()?)),
-        None => Ok(None),
-    }
 }
 
 /// Takes the bindings of the node that are new.

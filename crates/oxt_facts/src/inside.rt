@@ -1,28 +1,40 @@
-//! What is known of private names inside a class.
+//! What is known inside a class, and inside a block of an enum.
 ghost use Rattle.std.specs.Prelude.{◌≡◌, ◌&&◌, IfOk, None, OnOk, codes, if◌then◌else◌, is_some, option_map};
 ghost use Rattle.std.specs.List.{list_any};
 ghost use Rattle.oxt_tree.specs.Fields.{elements, is_text, named};
 ghost use Rattle.oxt_grammar.specs.Places.{same_kind};
 ghost use Rattle.oxt_tree.specs.View.{docs_in, part_doc};
 ghost use Rattle.oxt_facts.specs.Privates.{no_privates};
-ghost use Rattle.oxt_facts.specs.Inside.{chosen_key, first_key, holds_key, inside, is_told, known_or, last_key, made_key, made_name, private_key, private_name, privates_of, setter_name, stored_at, with_made, with_name};
+ghost use Rattle.oxt_facts.specs.Inside.{chosen_key, first_key, holds_key, inside, inside_class, is_told, known_or, last_key, made_key, made_name, private_key, private_name, privates_of, setter_name, stored_at, with_made, with_name};
 
 use crate::facts::Facts;
 use crate::privates::ClassPrivates;
+use crate::told::Told;
 use oxt_grammar::category::Category;
 use oxt_grammar::kind::Kind;
 use oxt_tree::ids::OutOfMemory;
 use oxt_tree::tree::{Node, Part};
 
-/// What is known inside the node, where that is more than around it: in the body of a class one of whose
-/// setters has a made name as its key, or which stands in such a class.
+/// What is known inside the node, where that is more than around it: in a block of an enum that becomes a function, and in
+/// the body of a class one of whose setters has a made name as its key, or which stands in such a class.
 ///
 /// # Errors
 ///
 /// Fails only where memory runs out.
 pub fn inside(facts: &Facts, node: &Node) -> Result<Option<Facts>, OutOfMemory>
     ensures { IfOk result (λ more. known_or facts.now more
-        ≡ inside facts.now node.now.kind (docs_in node.now.parts.items)) }
+        ≡ inside facts.now node.now.id.0 node.now.kind (docs_in node.now.parts.items)) }
+{
+    match facts.told_of(node.id) {
+        Some(Told::Block(block)) => Ok(Some(facts.in_block(block)?)),
+        _ => inside_class(facts, node),
+    }
+}
+
+/// What is known inside the node, where that is more than around it and the node may be the body of a class.
+fn inside_class(facts: &Facts, node: &Node) -> Result<Option<Facts>, OutOfMemory>
+    ensures { IfOk result (λ more. known_or facts.now more
+        ≡ inside_class facts.now node.now.kind (docs_in node.now.parts.items)) }
 {
     if !is_told(facts, node) {
         return Ok(None);

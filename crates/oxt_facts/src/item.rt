@@ -167,10 +167,12 @@ pub enum Atom {
     Binding(Binding),
 }
 
-/// An item: what it stands for, what it is spelled, and further texts and flags.
+/// An item: what it stands for, what it is spelled, further texts and flags, and the group that a name means or declares:
+/// none where the name is free, and for what is no name.
 #[derive(Debug, Drop)]
 pub struct Item {
     pub kind: ItemKind,
     pub spelling: Atom,
     pub details: Vec<Atom>,
+    pub group: Option<u64>,
 }

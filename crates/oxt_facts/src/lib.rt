@@ -4,8 +4,10 @@
 
 pub mod compare;
 pub mod facts;
+pub mod groups;
 pub mod inside;
 pub mod item;
+pub mod owners;
 pub mod privates;
 pub mod tags;
 pub mod told;

@@ -26,6 +26,10 @@ pub enum MemberValue {
 pub struct ToldBlock {
     /// The enum's name.
     pub name: Name,
+    /// The group of that name.
+    pub group: Option<u64>,
+    /// The block's own number, by which the parameter of its function goes.
+    pub node: u64,
     /// Whether nothing of its name emits code before it.
     pub is_first: bool,
     /// Whether the program's own scope declares it.
@@ -39,6 +43,8 @@ pub struct ToldBlock {
 pub struct ToldMember {
     /// The enum's name.
     pub owner: Name,
+    /// The number of the block.
+    pub block: u64,
     /// The member's name.
     pub name: Name,
     /// Its value.
@@ -54,9 +60,12 @@ pub enum Told {
     Block(ToldBlock),
     /// It is a member of an enum.
     Member(ToldMember),
-    /// It is a bare name that means a member of the enum of that name.
-    Bare(Name),
-    /// It does nothing: an import or an export that is removed, or a specifier that is not kept.
+    /// It is a bare name that means a member of the enum of that name, which has that group.
+    Bare(Name, Option<u64>),
+    /// It is an expression in whose place the constant stands.
+    Inlined(ConstantValue),
+    /// It does nothing: a block of an enum that is dropped, an import or an export that is removed, or a specifier that
+    /// is not kept.
     Gone,
     /// It is an import that loses its whole list, and stays for what its module does.
     Listless,

@@ -1,5 +1,7 @@
 pub mod Captured
+pub mod Initializers
 pub mod Level
+pub mod Marks
 pub mod Misplaced
 pub mod Reaches
 pub mod Seats

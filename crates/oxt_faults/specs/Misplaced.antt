@@ -1,4 +1,4 @@
--- The first node, outside erased code, that stands where it may not.
+-- The first node, outside erased code, that stands where it may not by what stands around it.
 use Rattle.std.specs.Prelude.{ℕ, List, [], ◌∷◌, Bool, false, not, ◌&&◌, ◌||◌, if◌then◌else◌, Option, Some, find, option_map, codes}
 use Rattle.std.specs.List.{list_any}
 use Rattle.oxt_faults.specs.Seats.{seat_of}
@@ -53,10 +53,12 @@ abbrev pub is_misplaced_decorator : Seat → Kind → Bool
 is_misplaced_decorator seat.ParameterDecorator k = same_kind k kind.Decorator
 is_misplaced_decorator s k = false
 
--- a node of that kind and with those fields is misplaced in a seat, by kind
+-- A node of that kind and with those fields is misplaced in a seat, by kind. The others are no matter of the seat:
+-- the names of the program decide them.
 abbrev pub is_misplaced : Seat → Kind → Docs → MisplacedKind → Bool
 is_misplaced s k ds misplaced_kind.Body = is_misplaced_body s k ds
 is_misplaced s k ds misplaced_kind.Decorator = is_misplaced_decorator s k
+is_misplaced s k ds m = false
 
 -- the order in which the kinds are answered at one node
 abbrev pub misplaced_kinds : List MisplacedKind

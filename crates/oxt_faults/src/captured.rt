@@ -1,9 +1,11 @@
 //! The first name that would change its owner.
-ghost use Rattle.std.specs.Prelude.{◌≡◌, option_map};
-ghost use Rattle.oxt_faults.specs.Captured.{Capture, captured, captured_at, capture_view, sought, value_meant};
+ghost use Rattle.std.specs.Prelude.{◌≡◌, IfOk, option_map};
+ghost use Rattle.oxt_faults.specs.Captured.{Capture, captured, capture_view, value_meant};
+ghost use Rattle.oxt_faults.specs.Marks.{captured_symbols, marked, marked_at};
+ghost use Rattle.oxt_search.specs.First.{first_in};
 ghost use Rattle.oxt_tree.specs.View.{node_doc};
 
-use crate::outside::is_captured;
+use crate::outside::{captured_symbols, mark_at};
 use bitflags::Flags;
 use oxt_grammar::holds::Row;
 use oxt_grammar::kind::Kind;
@@ -12,10 +14,11 @@ use oxt_names::ids::SymbolId;
 use oxt_scoping::scoping::Scoping;
 use oxt_search::first::first_in;
 use oxt_search::search::{Inside, Search, Visit};
-use oxt_tree::ids::NodeId;
+use oxt_tree::ids::{NodeId, OutOfMemory};
 use oxt_tree::name::Name;
 use oxt_tree::tree::Node;
 use oxt_unbuilt::dropped::is_dropped;
+use std::alloc::Global;
 
 /// A name that would change its owner.
 #[derive(Clone, Copy, Debug)]
@@ -29,20 +32,43 @@ pub struct CapturedName<'a> {
 /// The first name in the program that would change its owner, outside what is erased: one that is used
 /// as a value and means a symbol of which no declaration emits code, while a scope further out binds
 /// the same name to a symbol that does.
-pub fn first_captured<'a>(program: &Node, scoping: &'a Scoping) -> Option<CapturedName<'a>>
-    ensures { option_map capture_view result ≡ captured scoping.now (node_doc program.now) }
+///
+/// # Errors
+///
+/// Fails only where memory runs out.
+pub fn first_captured<'a>(
+    alloc: Global,
+    program: &Node,
+    scoping: &'a Scoping,
+) -> Result<Option<CapturedName<'a>>, OutOfMemory>
+    ensures { IfOk result (λ found. option_map capture_view found ≡ captured scoping.now (node_doc program.now)) }
 {
-    first_in(&Captures { scoping }, program, ())
+    let marks = captured_symbols(alloc, scoping)?;
+    Ok(first_marked(program, scoping, marks.as_slice()))
+}
+
+/// The first name in the program that means a marked symbol.
+fn first_marked<'a>(
+    program: &Node,
+    scoping: &'a Scoping,
+    marks: &[bool],
+) -> Option<CapturedName<'a>>
+    ensures { option_map capture_view result
+        ≡ first_in (marked scoping.now marks.now) (node_doc program.now) tt }
+{
+    first_in(&Marked { scoping, marks }, program, ())
 }
 
 /// The search for such names.
 #[derive(Clone, Copy)]
-struct Captures<'a> {
+struct Marked<'a, 'b> {
     /// What the names mean.
     scoping: &'a Scoping,
+    /// Of each symbol whether it is marked.
+    marks: &'b [bool],
 }
 
-impl<'a> Search for Captures<'a> {
+impl<'a, 'b> Search for Marked<'a, 'b> {
     type State = ();
 
     type Found = CapturedName<'a>;
@@ -51,7 +77,7 @@ impl<'a> Search for Captures<'a> {
 
     ghost view = { capture_view };
 
-    ghost sought = { λ captures. sought captures.scoping.now };
+    ghost sought = { λ search. marked search.scoping.now search.marks.now };
 
     fn visit(&self, node: &Node, _state: ()) -> Visit<CapturedName<'a>, ()> {
         if is_dropped(node) {
@@ -61,7 +87,7 @@ impl<'a> Search for Captures<'a> {
             }
         } else {
             Visit {
-                found: captured_at(node.id, self.scoping),
+                found: marked_at(node.id, self.scoping, self.marks),
                 inside: Inside::Alike(()),
             }
         }
@@ -72,12 +98,12 @@ impl<'a> Search for Captures<'a> {
     }
 }
 
-/// The node, if it is such a name.
-fn captured_at<'a>(node: NodeId, scoping: &'a Scoping) -> Option<CapturedName<'a>>
-    ensures { option_map capture_view result ≡ captured_at scoping.now node.0 }
+/// The node, if the symbol that it means is marked.
+fn marked_at<'a>(node: NodeId, scoping: &'a Scoping, marks: &[bool]) -> Option<CapturedName<'a>>
+    ensures { option_map capture_view result ≡ marked_at scoping.now marks.now node.0 }
 {
     let symbol = value_meant(node, scoping)?;
-    if scoping.has_symbol(symbol) && is_captured(scoping, symbol) {
+    if mark_at(marks, symbol) && scoping.has_symbol(symbol) {
         let name = scoping.symbol_name(symbol);
         Some(CapturedName { node, name })
     } else {

@@ -3,6 +3,7 @@
 #![tactic(auto)]
 
 pub mod captured;
+pub mod initializer;
 pub mod level;
 pub mod misplaced;
 mod outside;

@@ -1,10 +1,10 @@
 //! The first node that stands where it may not.
 //!
-//! One search answers for all kinds. One more refusal is a test of the node at whose place it is answered: a variant of
-//! `MisplacedKind`, its place in the list `misplaced_kinds`, and its arm in `is_misplaced`, in `rules` and with the same
-//! names in specs/Misplaced.antt; its word on the line of standard error is in `kind_text` of `oxt_check`. What the test
-//! has to know of the nodes around is handed down in the state of the search, `Seat`; a table that it looks into is a
-//! field of `Misplacements`.
+//! One search answers for all kinds that a node and those around it decide. One more such refusal is a test of the node
+//! at whose place it is answered: a variant of `MisplacedKind`, its place in the list `misplaced_kinds`, and its arm in
+//! `is_misplaced`, in `rules` and with the same names in specs/Misplaced.antt; its word on the line of standard error is
+//! in `kind_text` of `oxt_check`. What the test has to know of the nodes around is handed down in the state of the
+//! search, `Seat`. `Merge` and `Enum`, which the table of names decides, are found by `oxt_enum_checks`.
 ghost use Rattle.std.specs.Prelude.{◌≡◌, find, option_map};
 ghost use Rattle.oxt_faults.specs.Misplaced.{Misplacement, is_misplaced, misplaced, misplaced_at, misplaced_kinds, misplaced_view, sought};
 ghost use Rattle.oxt_tree.specs.View.{docs_in, node_doc};
@@ -24,6 +24,10 @@ use oxt_unbuilt::dropped::is_dropped;
 pub enum MisplacedKind {
     /// It stands as the only statement of a label, a branch, a loop or `with`, or in the head of a `for`.
     Body,
+    /// It declares a name that an enum has, and does not merge with it.
+    Merge,
+    /// It is a member whose name is not its own, or a bare name of one where its value cannot stand.
+    Enum,
     /// It decorates what has no decorators.
     Decorator,
 }
@@ -37,9 +41,9 @@ pub struct Misplaced {
     pub node: NodeId,
 }
 
-/// The first node outside erased code that stands where it may not, where a node comes before those in it. Of several
-/// kinds at one node it is the first in their order. What is erased as a whole may be misplaced itself, and nothing in
-/// it is.
+/// The first node outside erased code that stands where it may not by what stands around it, where a node comes before
+/// those in it. Of several kinds at one node it is the first in their order. What is erased as a whole may be misplaced
+/// itself, and nothing in it is.
 pub fn first_misplaced(program: &Node) -> Option<Misplaced>
     ensures { option_map misplaced_view result ≡ misplaced (node_doc program.now) }
 {

@@ -1,35 +1,104 @@
 //! Symbols that emit code, and names that scopes further out bind to such.
-ghost use Rattle.std.specs.Prelude.{◌≡◌, ◌<◌, IfSome, Some, length, option_map, slice_get};
+ghost use Rattle.std.specs.Prelude.{◌≡◌, ◌<◌, IfOk, IfSome, Some, length, option_map, slice_get};
 ghost use Rattle.oxt_faults.specs.Captured.{emits, emits_at, emits_from, emits_outside, is_captured};
+ghost use Rattle.oxt_faults.specs.Marks.{captured_symbols, emitting_symbols, mark_at};
 
 use oxt_names::ids::{ScopeId, SymbolId};
 use oxt_scoping::entry::Redeclaration;
 use oxt_scoping::scoping::Scoping;
+use oxt_tree::ids::OutOfMemory;
+use std::alloc::Global;
+
+/// Of each symbol whether no declaration of it emits code, while its name means one that does in a
+/// scope further out.
+pub fn captured_symbols(alloc: Global, scoping: &Scoping) -> Result<Vec<bool>, OutOfMemory>
+    ensures { IfOk result (λ marks. marks.items ≡ captured_symbols scoping.now) }
+{
+    let emitting = emitting_symbols(alloc, scoping)?;
+    captured_among(alloc, scoping, emitting.as_slice())
+}
+
+/// Of each symbol whether one of its declarations emits code.
+#[tactic(auto, using(crate::proofs::Symbols::marking_steps))]
+fn emitting_symbols(alloc: Global, scoping: &Scoping) -> Result<Vec<bool>, OutOfMemory>
+    ensures { IfOk result (λ marks. marks.items ≡ emitting_symbols scoping.now) }
+{
+    let mut marks = Vec::new(alloc);
+    while scoping.has_symbol(SymbolId(marks.len() as u64)) {
+        let mark = is_emitting(scoping, SymbolId(marks.len() as u64));
+        marks.push(mark)?;
+    }
+    Ok(marks)
+}
+
+/// Of each symbol whether it is captured, where that is known of each whether it emits code.
+#[tactic(auto, using(crate::proofs::Symbols::marking_steps))]
+fn captured_among(
+    alloc: Global,
+    scoping: &Scoping,
+    emitting: &[bool],
+) -> Result<Vec<bool>, OutOfMemory>
+    requires { emitting.now ≡ emitting_symbols scoping.now }
+    ensures { IfOk result (λ marks. marks.items ≡ captured_symbols scoping.now) }
+{
+    let mut marks = Vec::new(alloc);
+    while scoping.has_symbol(SymbolId(marks.len() as u64)) {
+        let mark = is_captured(scoping, emitting, SymbolId(marks.len() as u64));
+        marks.push(mark)?;
+    }
+    Ok(marks)
+}
+
+/// What is noted of the symbol.
+pub fn mark_at(marks: &[bool], symbol: SymbolId) -> bool
+    ensures { result ≡ mark_at marks.now symbol }
+{
+    marks.get(symbol.0 as usize).copied().unwrap_or(false)
+}
+
+/// Whether one of the symbol's declarations emits code.
+#[tactic(auto, using(crate::proofs::Symbols::emits_so))]
+fn is_emitting(scoping: &Scoping, symbol: SymbolId) -> bool
+    requires { symbol.0 < length scoping.now.symbols }
+    ensures { option_map (λ y. emits y.declarations) (slice_get scoping.now.symbols symbol.0) ≡ Some result }
+{
+    emits(scoping.symbol_redeclarations(symbol))
+}
 
 /// Whether no declaration of the symbol emits code, while its name means one that does in a scope
 /// further out.
-pub fn is_captured(scoping: &Scoping, symbol: SymbolId) -> bool
-    requires { symbol.0 < length scoping.now.symbols }
+fn is_captured(scoping: &Scoping, emitting: &[bool], symbol: SymbolId) -> bool
+    requires number { symbol.0 < length scoping.now.symbols }
+    requires marks { emitting.now ≡ emitting_symbols scoping.now }
     ensures { option_map (is_captured scoping.now) (slice_get scoping.now.symbols symbol.0) ≡ Some result }
 {
     let name = scoping.symbol_name(symbol);
     let scope = scoping.symbol_scope_id(symbol);
     !emits(scoping.symbol_redeclarations(symbol))
-        && is_emitted_outside(scoping, scope, name.as_str())
+        && is_emitted_outside(scoping, emitting, scope, name.as_str())
 }
 
 /// Whether a scope further out than that one binds the name to a symbol that emits code.
-fn is_emitted_outside(scoping: &Scoping, scope: ScopeId, name: &str) -> bool
-    requires { scope.0 < length scoping.now.scopes }
+fn is_emitted_outside(scoping: &Scoping, emitting: &[bool], scope: ScopeId, name: &str) -> bool
+    requires number { scope.0 < length scoping.now.scopes }
+    requires marks { emitting.now ≡ emitting_symbols scoping.now }
     ensures { result ≡ emits_outside scoping.now name.now scope }
 {
-    is_emitted_from(scoping, scope.0, scoping.scope_parent_id(scope), name)
+    let around = scoping.scope_parent_id(scope);
+    is_emitted_from(scoping, emitting, scope.0, around, name)
 }
 
 /// Whether a scope from that one outwards, through at most so many, binds the name to a symbol that
 /// emits code.
-fn is_emitted_from(scoping: &Scoping, left: u64, scope: Option<ScopeId>, name: &str) -> bool
-    requires { IfSome scope (λ first. first.0 < length scoping.now.scopes) }
+fn is_emitted_from(
+    scoping: &Scoping,
+    emitting: &[bool],
+    left: u64,
+    scope: Option<ScopeId>,
+    name: &str,
+) -> bool
+    requires number { IfSome scope (λ first. first.0 < length scoping.now.scopes) }
+    requires marks { emitting.now ≡ emitting_symbols scoping.now }
     ensures { result ≡ emits_from left scoping.now name.now scope }
 {
     if left == 0 {
@@ -37,20 +106,23 @@ fn is_emitted_from(scoping: &Scoping, left: u64, scope: Option<ScopeId>, name: &
     }
     match scope {
         Some(scope) => {
-            binds_emitted(scoping, scope, name)
-                || is_emitted_from(scoping, left - 1, scoping.scope_parent_id(scope), name)
+            let around = scoping.scope_parent_id(scope);
+            binds_emitted(scoping, emitting, scope, name)
+                || is_emitted_from(scoping, emitting, left - 1, around, name)
         }
         None => false,
     }
 }
 
 /// Whether the scope binds the name to a symbol that emits code.
-fn binds_emitted(scoping: &Scoping, scope: ScopeId, name: &str) -> bool
-    requires { scope.0 < length scoping.now.scopes }
+#[tactic(auto, using(crate::proofs::Symbols::emitting_mark))]
+fn binds_emitted(scoping: &Scoping, emitting: &[bool], scope: ScopeId, name: &str) -> bool
+    requires number { scope.0 < length scoping.now.scopes }
+    requires marks { emitting.now ≡ emitting_symbols scoping.now }
     ensures { result ≡ emits_at scoping.now name.now scope }
 {
     match scoping.get_binding(scope, name) {
-        Some(symbol) => emits(scoping.symbol_redeclarations(symbol)),
+        Some(symbol) => mark_at(emitting, symbol),
         None => false,
     }
 }

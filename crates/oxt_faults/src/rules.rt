@@ -12,20 +12,22 @@ use oxt_grammar::kind::Kind;
 use oxt_tree::tree::Node;
 use oxt_unbuilt::dropped::is_dropped;
 
-/// The kinds in which a node may be misplaced, in the order in which they are answered.
+/// The kinds in which a node may be misplaced by what stands around it, in the order in which they are answered.
 pub fn misplaced_kinds() -> &'static [MisplacedKind]
     ensures { result.now ≡ misplaced_kinds }
 {
     &[MisplacedKind::Body, MisplacedKind::Decorator]
 }
 
-/// Whether the node is misplaced in that seat, by kind.
+/// Whether the node is misplaced in that seat, by kind; never in a kind that the table of names decides.
 pub fn is_misplaced(kind: MisplacedKind, seat: Seat, node: &Node) -> bool
     ensures { result ≡ is_misplaced seat node.now.kind (docs_in node.now.parts.items) kind }
 {
     match kind {
         MisplacedKind::Body => is_misplaced_body(seat, node),
         MisplacedKind::Decorator => is_misplaced_decorator(seat, node),
+        MisplacedKind::Merge => false,
+        MisplacedKind::Enum => false,
     }
 }
 

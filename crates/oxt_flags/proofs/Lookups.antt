@@ -123,7 +123,7 @@ value_found id gs e =
 
 pub options_found : (gs : List Given) → options_in (found_rows gs) ≡ options_with gs
 options_found gs =
-    rw (value_found (codes "jsx-pragma") gs refl, value_found (codes "jsx-pragma-frag") gs refl, is_used_found (codes "only-remove-type-imports") gs) refl
+    rw (value_found (codes "jsx-pragma") gs refl, value_found (codes "jsx-pragma-frag") gs refl, is_used_found (codes "only-remove-type-imports") gs, is_used_found (codes "optimize-const-enums") gs, is_used_found (codes "optimize-enums") gs) refl
 
 -- the options that the words say
 pub options_said : (words : List Text) (rows : List Row) (t : TransformData) → Some rows ≡ option_map found_rows (given_by words) → t ≡ options_in rows → Some t ≡ parsed words

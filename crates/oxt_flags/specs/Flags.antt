@@ -27,6 +27,8 @@ flags =
     with_value (codes "jsx-pragma")
     ∷ with_value (codes "jsx-pragma-frag")
     ∷ alone (codes "only-remove-type-imports")
+    ∷ alone (codes "optimize-const-enums")
+    ∷ alone (codes "optimize-enums")
     ∷ []
 
 -- ---- what the words give
@@ -120,6 +122,8 @@ options_by value is_used = record transform_defaults {
     jsx_pragma = unwrap_or (value (codes "jsx-pragma")) typescript_defaults.jsx_pragma;
     jsx_pragma_frag = unwrap_or (value (codes "jsx-pragma-frag")) typescript_defaults.jsx_pragma_frag;
     only_remove_type_imports = is_used (codes "only-remove-type-imports");
+    optimize_const_enums = is_used (codes "optimize-const-enums");
+    optimize_enums = is_used (codes "optimize-enums");
   };
 }
 

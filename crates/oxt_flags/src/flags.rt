@@ -18,6 +18,10 @@ pub const JSX_PRAGMA: &str = "jsx-pragma";
 pub const JSX_PRAGMA_FRAG: &str = "jsx-pragma-frag";
 /// Only imports that say so themselves are imports of types.
 pub const ONLY_REMOVE_TYPE_IMPORTS: &str = "only-remove-type-imports";
+/// Members of `const` enums are inlined, and such enums dropped.
+pub const OPTIMIZE_CONST_ENUMS: &str = "optimize-const-enums";
+/// The same for other enums.
+pub const OPTIMIZE_ENUMS: &str = "optimize-enums";
 
 /// All flags.
 pub fn flags() -> &'static [Flag]
@@ -34,6 +38,14 @@ pub fn flags() -> &'static [Flag]
         },
         Flag {
             name: ONLY_REMOVE_TYPE_IMPORTS,
+            takes_value: false,
+        },
+        Flag {
+            name: OPTIMIZE_CONST_ENUMS,
+            takes_value: false,
+        },
+        Flag {
+            name: OPTIMIZE_ENUMS,
             takes_value: false,
         },
     ]

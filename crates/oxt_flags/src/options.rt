@@ -7,7 +7,9 @@ ghost use Rattle.oxt_flags.specs.Matching.{found_rows, options_in, is_used, is_w
 ghost use Rattle.oxt_options.specs.Options.{transform_view};
 ghost use Rattle.oxt_tree.specs.Names.{name_bytes};
 
-use crate::flags::{JSX_PRAGMA, JSX_PRAGMA_FRAG, ONLY_REMOVE_TYPE_IMPORTS};
+use crate::flags::{
+    JSX_PRAGMA, JSX_PRAGMA_FRAG, ONLY_REMOVE_TYPE_IMPORTS, OPTIMIZE_CONST_ENUMS, OPTIMIZE_ENUMS,
+};
 use crate::matching::matched;
 use clap::ArgMatches;
 use clap::parser::ValueSource;
@@ -65,6 +67,8 @@ fn options_from(alloc: Global, matches: &ArgMatches<'_>) -> Result<TransformOpti
         &mut typescript.jsx_pragma_frag,
     )?;
     typescript.only_remove_type_imports = is_used(matches, ONLY_REMOVE_TYPE_IMPORTS);
+    typescript.optimize_const_enums = is_used(matches, OPTIMIZE_CONST_ENUMS);
+    typescript.optimize_enums = is_used(matches, OPTIMIZE_ENUMS);
     Ok(options)
 }
 

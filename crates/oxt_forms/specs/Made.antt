@@ -1,5 +1,5 @@
 -- Forms that are read by a rule of their own where they have made names.
-use Rattle.std.specs.Prelude.{ℕ, List, Bool, false, not, ◌&&◌, ◌||◌, if◌then◌else◌, Option, None, Some, codes}
+use Rattle.std.specs.Prelude.{ℕ, List, Bool, true, false, not, ◌&&◌, ◌||◌, if◌then◌else◌, Option, None, Some, codes}
 use Rattle.std.specs.List.{list_any}
 use Rattle.oxt_grammar.specs.Places.{same_kind}
 use Rattle.oxt_grammar.specs.declared.kind.Kind.{Kind}
@@ -9,6 +9,7 @@ use Rattle.oxt_tree.specs.Fields.{first, named, field_of, elements, docs_list, i
 use Rattle.oxt_tree.specs.Inner.{seen}
 use Rattle.oxt_tree.specs.Syntax.{is_mere_declaration}
 use Rattle.oxt_facts.specs.Facts.{Known, is_made}
+use Rattle.oxt_facts.specs.Told.{Telling, gone, told_of}
 use Rattle.oxt_forms.specs.Forms.{within, same_text, is_empty_object, is_name_again, is_choice, is_one}
 
 -- the use of a made name
@@ -179,11 +180,21 @@ passes_on f k ds =
     && pass_name f (text_in (field_of (codes "name") (rest_pattern (named (codes "params") k ds))))
     (elements (field_of (codes "statements") (named (codes "body") k ds))))
 
+-- that it does nothing is what is told
+abbrev pub tells_gone : Option Telling → Bool
+tells_gone (Some gone) = true
+tells_gone t = false
+
+-- a node of which that is told
+abbrev pub is_told_gone : Known → Doc → Bool
+is_told_gone f (node k i b e ds) = tells_gone (told_of f.told i)
+is_told_gone f d = false
+
 -- a statement that is neither an expression nor nothing
 abbrev pub is_loud : Known → Doc → Bool
 is_loud f d =
     not (is_kind kind.ExpressionStatement d)
-    && (not (is_mere_declaration d) && not (is_silent_declaration f d))
+    && (not (is_mere_declaration d) && (not (is_silent_declaration f d) && not (is_told_gone f d)))
 
 -- a static block all of whose statements are expressions or nothing
 abbrev pub is_quiet : Known → Kind → Docs → Bool

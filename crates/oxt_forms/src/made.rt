@@ -3,12 +3,13 @@ ghost use Rattle.std.specs.Prelude.{◌≡◌, not, codes};
 ghost use Rattle.std.specs.List.{list_any};
 ghost use Rattle.oxt_facts.specs.Facts.{is_made};
 ghost use Rattle.oxt_forms.specs.Forms.{within};
-ghost use Rattle.oxt_forms.specs.Made.{are_silent, is_keep, is_loud, is_made_binding, is_made_use, is_quiet, is_silent, is_silent_declaration, is_silent_declarator};
+ghost use Rattle.oxt_forms.specs.Made.{are_silent, is_keep, is_loud, is_made_binding, is_made_use, is_quiet, is_silent, is_silent_declaration, is_silent_declarator, is_told_gone};
 ghost use Rattle.oxt_tree.specs.Fields.{named};
 ghost use Rattle.oxt_tree.specs.View.{docs_in, part_doc};
 
 use crate::forms::{lists_nothing, within};
 use oxt_facts::facts::Facts;
+use oxt_facts::told::Told;
 use oxt_grammar::kind::Kind;
 use oxt_tree::tree::{Node, Part};
 
@@ -115,7 +116,21 @@ fn is_loud(facts: &Facts, part: &Part) -> bool
     ensures { result ≡ is_loud facts.now (part_doc part.now) }
 {
     !part.is_kind(Kind::ExpressionStatement)
-        && (!part.is_mere_declaration() && !is_silent_declaration(facts, part))
+        && (!part.is_mere_declaration()
+            && (!is_silent_declaration(facts, part) && !is_told_gone(facts, part)))
+}
+
+/// Whether it is told of the part that it does nothing.
+fn is_told_gone(facts: &Facts, part: &Part) -> bool
+    ensures { result ≡ is_told_gone facts.now (part_doc part.now) }
+{
+    match part {
+        Part::Node(node) => match facts.told_of(node.id) {
+            Some(Told::Gone) => true,
+            _ => false,
+        },
+        _ => false,
+    }
 }
 
 /// Whether each statement of the block is an expression or nothing.

@@ -1,4 +1,5 @@
 pub mod Context
 pub mod Named
 pub mod Nodes
+pub mod Spare
 pub mod Statement

@@ -44,16 +44,15 @@ fn members_of(
         (length ctx.new.scoping.symbols ≡ length ctx.old.scoping.symbols) }
 {
     let mut parts = take_members(block);
-    let mut uses = Vec::new(alloc);
-    let mut ids = ctx.ids;
-    let renames = IdentifierReferenceRename {
-        scoping: &ctx.scoping,
-        scope: home_of(&ctx.scoping, facts.symbol),
-        name: &facts.name,
-    };
-    let members = members_in(alloc, &renames, &mut parts, &mut ids, &mut uses)?;
+    let home = home_of(&ctx.scoping, facts.symbol);
+    let mut renames = IdentifierReferenceRename::new(alloc, &facts.name, home, ctx);
+    let members = members_in(alloc, &mut renames, &mut parts)?;
+    let IdentifierReferenceRename { ids, made, .. } = renames;
     ctx.ids = ids;
-    Ok(Taken { members, uses })
+    Ok(Taken {
+        members,
+        uses: made,
+    })
 }
 
 /// What stands in the place of a block with these members.

@@ -7,9 +7,10 @@ use oxt_grammar::kind::Kind;
 use oxt_names::constant::ConstantValue;
 use oxt_scoping::scoping::Scoping;
 use oxt_tree::fields::place_of;
-use oxt_tree::ids::{NodeId, NodeIds, OutOfMemory};
+use oxt_tree::ids::{NodeId, OutOfMemory};
 use oxt_tree::name::Name;
 use oxt_tree::tree::{Node, Part};
+use oxt_visit::walk::visit_js_mut;
 use std::alloc::Global;
 
 /// What the value of a member is written as.
@@ -44,14 +45,12 @@ pub struct Taken {
 /// Takes the members of the list. In their initializers the bare names of members are renamed.
 pub fn members_in(
     alloc: Global,
-    renames: &IdentifierReferenceRename,
+    renames: &mut IdentifierReferenceRename,
     parts: &mut Vec<Part>,
-    ids: &mut NodeIds,
-    made: &mut Vec<NodeId>,
 ) -> Result<Vec<Member>, OutOfMemory> {
     let mut members = Vec::new(alloc);
     for part in parts.iter_mut() {
-        let member = member_in(alloc, renames, members.as_slice(), part, ids, made)?;
+        let member = member_in(alloc, renames, members.as_slice(), part)?;
         members.push(member)?;
     }
     Ok(members)
@@ -60,51 +59,38 @@ pub fn members_in(
 /// The member behind these.
 fn member_in(
     alloc: Global,
-    renames: &IdentifierReferenceRename,
+    renames: &mut IdentifierReferenceRename,
     before: &[Member],
     part: &mut Part,
-    ids: &mut NodeIds,
-    made: &mut Vec<NodeId>,
 ) -> Result<Member, OutOfMemory> {
     let name = name_of(alloc, part)?;
-    let value = value_of(alloc, renames, before, part, ids, made)?;
+    let value = value_of(alloc, renames, before, part)?;
     Ok(Member { name, value })
 }
 
 /// The value of the member behind these.
 fn value_of(
     alloc: Global,
-    renames: &IdentifierReferenceRename,
+    renames: &mut IdentifierReferenceRename,
     before: &[Member],
     part: &mut Part,
-    ids: &mut NodeIds,
-    made: &mut Vec<NodeId>,
 ) -> Result<Value, OutOfMemory> {
     match constant_of(renames.scoping, part) {
         Some(constant) => Ok(Value::Constant(constant.share()?)),
-        None => written(
-            alloc,
-            renames,
-            before,
-            take_from(part, "initializer"),
-            ids,
-            made,
-        ),
+        None => written(alloc, renames, before, take_from(part, "initializer")),
     }
 }
 
 /// The value of a member with that initializer, behind these: the bare names of members are renamed in it.
 fn written(
     alloc: Global,
-    renames: &IdentifierReferenceRename,
+    renames: &mut IdentifierReferenceRename,
     before: &[Member],
     initializer: Part,
-    ids: &mut NodeIds,
-    made: &mut Vec<NodeId>,
 ) -> Result<Value, OutOfMemory> {
     match initializer {
         Part::Node(mut node) => {
-            renames.rename_node(&mut node, ids, made)?;
+            visit_js_mut(renames, &mut node)?;
             Ok(Value::Written(node))
         }
         _ => Ok(Value::After(last_name(alloc, before)?)),

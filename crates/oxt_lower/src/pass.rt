@@ -4,9 +4,11 @@
 //!
 //! ```ts
 //! enum Color { Red, Green = "green" }
+//! const enum Size { Small = 1, Large = -Small }
+//! paint(Color.Red, Size.Large as number);
 //! ```
 //!
-//! After:
+//! After, where the members of enums with `const` are inlined:
 //!
 //! ```js
 //! var Color = /* @__PURE__ */ function(Color) {
@@ -14,10 +16,13 @@
 //!     Color["Green"] = "green";
 //!     return Color;
 //! }(Color || {});
+//! paint(Color.Red, -1);
 //! ```
+
 ghost use Rattle.std.specs.Prelude.{◌≡◌};
 
-use crate::statement::lower_statement;
+use crate::inline::inline_constant;
+use crate::statement::{drop_blocks, lower_statement};
 use oxt_ctx::context::TraverseCtx;
 use oxt_traverse::hook::Hook;
 use oxt_traverse::traverse::Traverse;
@@ -25,12 +30,14 @@ use oxt_tree::ids::OutOfMemory;
 use oxt_tree::tree::{Node, Part};
 
 /// The pass that puts in the place of each block of an enum the call of a function that makes the
-/// enum's object. Blocks that are erased stay, and so do enums that are not statements.
+/// enum's object, and in the place of each expression that the plan inlines its constant. Blocks that the
+/// plan drops go when their list is left, so that nothing is in their place. Blocks that are erased stay,
+/// and so do enums that are not statements.
 #[derive(Clone, Copy, Debug)]
 pub struct TypeScriptEnum {
-    /// Whether the members of enums with `const` are to be inlined, which is not done yet.
+    /// Whether members of enums with `const` are inlined.
     pub optimize_const_enums: bool,
-    /// Whether those of other enums are to be inlined, which is not done yet.
+    /// Whether those of other enums are.
     pub optimize_enums: bool,
 }
 
@@ -45,32 +52,37 @@ impl TypeScriptEnum {
             optimize_enums,
         }
     }
+
+    /// Whether members of some enums are inlined.
+    fn inlines(self) -> bool {
+        self.optimize_const_enums || self.optimize_enums
+    }
 }
 
 impl Traverse for TypeScriptEnum {
     fn at_node(
         &mut self,
-        _hook: Hook,
-        _node: &mut Node,
-        _ctx: &mut TraverseCtx,
+        hook: Hook,
+        node: &mut Node,
+        ctx: &mut TraverseCtx,
     ) -> Result<(), OutOfMemory> {
-        Ok(())
+        match hook {
+            Hook::EnterStatement => lower_statement(node, ctx),
+            Hook::EnterExpression if self.inlines() => inline_constant(node, ctx),
+            _ => Ok(()),
+        }
     }
 
     fn at_statements(
         &mut self,
-        _hook: Hook,
-        _statements: &mut Vec<Part>,
-        _ctx: &mut TraverseCtx,
-    ) -> Result<(), OutOfMemory> {
-        Ok(())
-    }
-
-    fn enter_statement(
-        &mut self,
-        node: &mut Node,
+        hook: Hook,
+        statements: &mut Vec<Part>,
         ctx: &mut TraverseCtx,
     ) -> Result<(), OutOfMemory> {
-        lower_statement(node, ctx)
+        match hook {
+            Hook::ExitStatements if self.inlines() => drop_blocks(statements, &ctx.plan),
+            _ => {}
+        }
+        Ok(())
     }
 }

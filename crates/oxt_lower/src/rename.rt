@@ -1,10 +1,27 @@
 //! Bare names of the members of an enum, which inside its function are members of its parameter.
-ghost use Rattle.std.specs.Prelude.{◌≡◌, ◌<◌, length, slice_get};
+//!
+//! Before, in a block of `enum E` that has a member `a`:
+//!
+//! ```ts
+//! b = f(a, { a }, (c = a) => c)
+//! ```
+//!
+//! After:
+//!
+//! ```ts
+//! b = f(E.a, { a: E.a }, (c = E.a) => c)
+//! ```
+ghost use Rattle.std.specs.Prelude.{◌≡◌, ◌<◌, ◌≤◌, IfOk, OnOk, length, nat_le, nat_lt, slice_get, true, ◌&&◌};
 ghost use Rattle.oxt_lower.specs.Named.{is_here, is_member, is_member_of, is_member_use, means_member};
+ghost use Rattle.oxt_lower.specs.Spare.{IsLight, spare_before};
+ghost use Rattle.oxt_tree.specs.View.{node_doc};
+ghost use Rattle.oxt_visit.specs.Weight.{weight};
 
 use crate::facts::text_of;
 use crate::nodes::{member, property_name, reference};
+use crate::shorthand::open_properties;
 use bitflags::Flags;
+use oxt_ctx::context::TraverseCtx;
 use oxt_grammar::kind::Kind;
 use oxt_names::flags::{ReferenceFlags, SymbolFlags};
 use oxt_names::ids::{ScopeId, SymbolId};
@@ -12,99 +29,72 @@ use oxt_scoping::entry::Reference;
 use oxt_scoping::scoping::Scoping;
 use oxt_tree::ids::{NodeId, NodeIds, OutOfMemory};
 use oxt_tree::name::Name;
-use oxt_tree::tree::{Node, Part};
+use oxt_tree::tree::Node;
+use oxt_visit::visitor::VisitJsMut;
 use std::alloc::Global;
 
-/// Renames the bare names of the members of an enum.
-#[derive(Clone, Copy)]
+/// A visitor that puts in the place of each bare name of a member of an enum that member of the enum's
+/// name. A shorthand property whose value is such a name is written out.
+#[derive(Drop)]
 pub struct IdentifierReferenceRename<'a> {
     /// What names mean.
     pub scoping: &'a Scoping,
     /// The scope in which the enum is declared.
-    pub scope: ScopeId,
+    scope: ScopeId,
     /// How the enum is spelled.
-    pub name: &'a Name,
+    name: &'a Name,
+    /// The first number that no node had before.
+    first: u64,
+    /// Where the numbers of made nodes come from.
+    pub ids: NodeIds,
+    /// The numbers of the names of the enum that were made, of which the table of names does not know yet.
+    pub made: Vec<NodeId>,
 }
 
 impl<'a> IdentifierReferenceRename<'a> {
-    /// Puts in the place of each bare name that means a member of the enum that member of the enum's
-    /// name. The numbers of the names of the enum that are made are put behind the others.
-    #[cycle(rename)]
-    pub fn rename_node(
-        &self,
-        node: &mut Node,
-        ids: &mut NodeIds,
-        made: &mut Vec<NodeId>,
-    ) -> Result<(), OutOfMemory> {
-        if self.is_renamed(node) {
-            return self.put_member(node, ids, made);
-        }
-        let is_opened = self.opens(node);
-        self.rename_parts(&mut node.parts, ids, made)?;
-        if is_opened {
-            open_shorthand(&mut node.parts);
-        }
-        Ok(())
-    }
-
-    /// The same in each of the parts.
-    #[cycle(rename)]
-    fn rename_parts(
-        &self,
-        parts: &mut Vec<Part>,
-        ids: &mut NodeIds,
-        made: &mut Vec<NodeId>,
-    ) -> Result<(), OutOfMemory> {
-        for i in 0..parts.len() {
-            self.rename_part(&mut parts[i], ids, made)?;
-        }
-        Ok(())
-    }
-
-    /// The same in what the part is.
-    #[cycle(rename)]
-    fn rename_part(
-        &self,
-        part: &mut Part,
-        ids: &mut NodeIds,
-        made: &mut Vec<NodeId>,
-    ) -> Result<(), OutOfMemory> {
-        match part {
-            Part::Node(node) => self.rename_node(node, ids, made),
-            Part::List(parts) => self.rename_parts(parts, ids, made),
-            _ => Ok(()),
+    /// A visitor for the initializers in an enum of that name, which is declared in that scope.
+    pub fn new(
+        alloc: Global,
+        enum_name: &'a Name,
+        enum_scope_id: ScopeId,
+        ctx: &'a TraverseCtx,
+    ) -> IdentifierReferenceRename<'a> {
+        IdentifierReferenceRename {
+            scoping: &ctx.scoping,
+            scope: enum_scope_id,
+            name: enum_name,
+            first: ctx.ids.next,
+            ids: ctx.ids,
+            made: Vec::new(alloc),
         }
     }
 
     /// Puts the member in the place of its bare name.
-    fn put_member(
-        &self,
-        node: &mut Node,
-        ids: &mut NodeIds,
-        made: &mut Vec<NodeId>,
-    ) -> Result<(), OutOfMemory> {
+    fn put_member(&mut self, node: &mut Node) -> Result<(), OutOfMemory>
+        ensures light { OnOk result (IsLight self.old.ids.next (node_doc node.new)) }
+        ensures first { self.new.first ≡ self.old.first }
+    {
         let alloc = *node.parts.allocator();
-        made.push(NodeId(ids.next))?;
+        self.made.push(NodeId(self.ids.next))?;
         let name = name_of(alloc, node)?;
-        let member = member_of(alloc, self.name, &name, ids)?;
-        *node = member;
+        *node = member_of(alloc, self.name, &name, &mut self.ids)?;
         Ok(())
     }
 
     /// Whether the node is a bare name of a member.
-    fn is_renamed(&self, node: &Node) -> bool {
-        node.kind.is(Kind::IdentifierReference) && self.means_member(node.id)
+    pub fn is_renamed(&self, node: &Node) -> bool
+        ensures heavy { result ≡ true → 3 ≤ weight (spare_before self.now.first) (node_doc node.now) }
+        ensures behind { result ≡ true → self.now.first ≤ self.now.ids.next }
+    {
+        node.kind.is(Kind::IdentifierReference)
+            && (self.is_old(node.id) && self.means_member(node.id))
     }
 
-    /// Whether the node is a shorthand property whose value is a bare name of a member.
-    fn opens(&self, node: &Node) -> bool {
-        if !node.kind.is(Kind::ObjectProperty) {
-            return false;
-        }
-        match node.field("value") {
-            Some(Part::Node(value)) => self.is_renamed(value),
-            _ => false,
-        }
+    /// Whether the node stood there before. What was made is not renamed again, so that a walk ends.
+    fn is_old(&self, node: NodeId) -> bool
+        ensures { result ≡ nat_lt node.0 self.now.first && nat_le self.now.first self.now.ids.next }
+    {
+        node.0 < self.first && self.first <= self.ids.next
     }
 
     /// Whether the name that is the node of that number means a member of the enum as a value.
@@ -157,13 +147,39 @@ impl<'a> IdentifierReferenceRename<'a> {
     }
 }
 
+impl<'a> VisitJsMut for IdentifierReferenceRename<'a> {
+    ghost use Rattle.std.specs.Prelude.{⊤, refl};
+    ghost use Rattle.oxt_lower.specs.Spare.{spare_before};
+
+    ghost Seen = { ⊤ };
+
+    ghost read = { λ _. tt };
+
+    ghost spare = { λ renames. spare_before renames.first };
+
+    ghost by_fields = { λ k n b e ds es same. refl };
+
+    ghost by_elements = { λ ds es same. refl };
+
+    fn visit_expression(&mut self, node: &mut Node) -> Result<(), OutOfMemory> {
+        if self.is_renamed(node) {
+            self.put_member(node)
+        } else {
+            open_properties(self, node);
+            Ok(())
+        }
+    }
+}
+
 /// `object.name`, of the names.
 fn member_of(
     alloc: Global,
     object: &Name,
     name: &Name,
     ids: &mut NodeIds,
-) -> Result<Node, OutOfMemory> {
+) -> Result<Node, OutOfMemory>
+    ensures light { IfOk result (λ made. IsLight ids.old.next (node_doc made)) }
+{
     let object = reference(alloc, object, ids)?;
     let property = property_name(alloc, name, ids)?;
     member(alloc, object, property, ids)
@@ -176,13 +192,3 @@ fn name_of(alloc: Global, node: &Node) -> Result<Name, OutOfMemory> {
         None => Name::new(alloc, ""),
     }
 }
-
-/// Makes the property no shorthand.
-fn open_shorthand(parts: &mut Vec<Part>) {
-    if SHORTHAND < parts.len() {
-        parts[SHORTHAND] = Part::Flag(false);
-    }
-}
-
-/// The place of the field `shorthand` of a property.
-const SHORTHAND: usize = 4;

@@ -3,3 +3,4 @@ pub mod Jsx
 pub mod Kept
 pub mod Names
 pub mod Removed
+pub mod Symbols

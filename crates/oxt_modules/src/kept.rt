@@ -2,6 +2,7 @@
 ghost use Rattle.std.specs.Prelude.{◌≡◌, ◌++◌, IfOk, OnOk, codes};
 ghost use Rattle.oxt_modules.specs.Kept.{exported_name, is_kept, is_local_kept, is_reference_kept, is_spelling_kept, is_text_kept, kept, kept_default, kept_if, kept_in_list, kept_in_statement, kept_in_statements, kept_specifier, place_of};
 ghost use Rattle.oxt_modules.specs.Jsx.{is_jsx_text};
+ghost use Rattle.oxt_modules.specs.Symbols.{IsAnswered};
 ghost use Rattle.oxt_options.specs.Options.{typescript_view};
 ghost use Rattle.oxt_options.specs.Lists.{numbers_in};
 ghost use Rattle.oxt_tree.specs.Fields.{named};
@@ -9,6 +10,7 @@ ghost use Rattle.oxt_tree.specs.View.{doc_or_nil, docs_in, node_doc, part_doc};
 
 use crate::jsx::{JsxUse, is_jsx_name, jsx_use};
 use crate::names::{is_declared_again, is_name_kept, is_used};
+use crate::symbols::Symbols;
 use oxt_grammar::kind::Kind;
 use oxt_options::TypeScriptOptions;
 use oxt_scoping::scoping::Scoping;
@@ -42,57 +44,61 @@ pub fn kept_specifiers(
     ensures { IfOk result (λ nodes. numbers_in nodes.items
         ≡ kept scoping.now (node_doc program.now) (typescript_view options.now)) }
 {
+    let symbols = Symbols::of(alloc, scoping)?;
     let jsx = jsx_use(program);
     let mut out = Vec::new(alloc);
-    push_statements(scoping, options, jsx, program.list("body"), &mut out)?;
+    push_statements(&symbols, options, jsx, program.list("body"), &mut out)?;
     Ok(out)
 }
 
 /// Appends what is kept of the statements.
 #[tactic(auto, using(crate::proofs::Loops::statement_steps))]
 fn push_statements(
-    scoping: &Scoping,
+    symbols: &Symbols,
     options: &TypeScriptOptions,
     jsx: JsxUse,
     parts: &[Part],
     out: &mut Vec<NodeId>,
 ) -> Result<(), OutOfMemory>
+    requires { IsAnswered symbols.now }
     ensures { OnOk result (numbers_in out.new.items ≡ numbers_in out.old.items
-        ++ kept_in_statements scoping.now (typescript_view options.now) jsx (docs_in parts.now)) }
+        ++ kept_in_statements symbols.now.scoping.now (typescript_view options.now) jsx (docs_in parts.now)) }
 {
     for part in parts {
-        push_part(scoping, options, jsx, part, out)?;
+        push_part(symbols, options, jsx, part, out)?;
     }
     Ok(())
 }
 
 /// Appends what is kept of the statement.
 fn push_part(
-    scoping: &Scoping,
+    symbols: &Symbols,
     options: &TypeScriptOptions,
     jsx: JsxUse,
     part: &Part,
     out: &mut Vec<NodeId>,
 ) -> Result<(), OutOfMemory>
+    requires { IsAnswered symbols.now }
     ensures { OnOk result (numbers_in out.new.items ≡ numbers_in out.old.items
-        ++ kept_in_statement scoping.now (typescript_view options.now) jsx (part_doc part.now)) }
+        ++ kept_in_statement symbols.now.scoping.now (typescript_view options.now) jsx (part_doc part.now)) }
 {
     match part {
-        Part::Node(node) => push_statement(scoping, options, jsx, node, out),
+        Part::Node(node) => push_statement(symbols, options, jsx, node, out),
         _ => Ok(()),
     }
 }
 
 /// Appends what is kept of the statement.
 fn push_statement(
-    scoping: &Scoping,
+    symbols: &Symbols,
     options: &TypeScriptOptions,
     jsx: JsxUse,
     node: &Node,
     out: &mut Vec<NodeId>,
 ) -> Result<(), OutOfMemory>
+    requires { IsAnswered symbols.now }
     ensures { OnOk result (numbers_in out.new.items ≡ numbers_in out.old.items
-        ++ kept_in_statement scoping.now (typescript_view options.now) jsx (node_doc node.now)) }
+        ++ kept_in_statement symbols.now.scoping.now (typescript_view options.now) jsx (node_doc node.now)) }
 {
     if node.is_type_only() {
         return Ok(());
@@ -100,9 +106,9 @@ fn push_statement(
     match place_of(node.kind) {
         Some(place) => {
             let parts = node.list("specifiers");
-            push_specifiers(scoping, options, jsx, place, parts, out)
+            push_specifiers(symbols, options, jsx, place, parts, out)
         }
-        None => push_default(scoping, node, out),
+        None => push_default(symbols, node, out),
     }
 }
 
@@ -124,37 +130,39 @@ fn place_of(kind: Kind) -> Option<Place>
 /// Appends the specifiers that are kept.
 #[tactic(auto, using(crate::proofs::Loops::specifier_steps))]
 fn push_specifiers(
-    scoping: &Scoping,
+    symbols: &Symbols,
     options: &TypeScriptOptions,
     jsx: JsxUse,
     place: Place,
     parts: &[Part],
     out: &mut Vec<NodeId>,
 ) -> Result<(), OutOfMemory>
+    requires { IsAnswered symbols.now }
     ensures { OnOk result (numbers_in out.new.items ≡ numbers_in out.old.items
-        ++ kept_in_list scoping.now (typescript_view options.now) jsx place (docs_in parts.now)) }
+        ++ kept_in_list symbols.now.scoping.now (typescript_view options.now) jsx place (docs_in parts.now)) }
 {
     for part in parts {
-        push_specifier(scoping, options, jsx, place, part, out)?;
+        push_specifier(symbols, options, jsx, place, part, out)?;
     }
     Ok(())
 }
 
 /// Appends the specifier if it is kept.
 fn push_specifier(
-    scoping: &Scoping,
+    symbols: &Symbols,
     options: &TypeScriptOptions,
     jsx: JsxUse,
     place: Place,
     part: &Part,
     out: &mut Vec<NodeId>,
 ) -> Result<(), OutOfMemory>
+    requires { IsAnswered symbols.now }
     ensures { OnOk result (numbers_in out.new.items ≡ numbers_in out.old.items
-        ++ kept_specifier scoping.now (typescript_view options.now) jsx place (part_doc part.now)) }
+        ++ kept_specifier symbols.now.scoping.now (typescript_view options.now) jsx place (part_doc part.now)) }
 {
     match part {
         Part::Node(node) => {
-            let is_kept = !node.is_type_only() && is_kept(scoping, options, jsx, place, node);
+            let is_kept = !node.is_type_only() && is_kept(symbols, options, jsx, place, node);
             push_if(is_kept, node.id, out)
         }
         _ => Ok(()),
@@ -175,46 +183,49 @@ fn push_if(is_kept: bool, id: NodeId, out: &mut Vec<NodeId>) -> Result<(), OutOf
 
 /// Whether a specifier there, which does not say that it is of a type, is kept.
 fn is_kept(
-    scoping: &Scoping,
+    symbols: &Symbols,
     options: &TypeScriptOptions,
     jsx: JsxUse,
     place: Place,
     node: &Node,
 ) -> bool
-    ensures { result ≡ is_kept scoping.now (typescript_view options.now) jsx place
+    requires { IsAnswered symbols.now }
+    ensures { result ≡ is_kept symbols.now.scoping.now (typescript_view options.now) jsx place
         (named (codes "local") node.now.kind (docs_in node.now.parts.items)) }
 {
     match place {
         Place::Import => {
             options.only_remove_type_imports
-                || is_local_kept(scoping, options, jsx, node.field("local"))
+                || is_local_kept(symbols, options, jsx, node.field("local"))
         }
-        Place::Export => is_spelling_kept(scoping, node.field("local")),
+        Place::Export => is_spelling_kept(symbols, node.field("local")),
         Place::ExportFrom => true,
     }
 }
 
 /// Whether an import that binds that name is kept, if unused imports are not.
 fn is_local_kept(
-    scoping: &Scoping,
+    symbols: &Symbols,
     options: &TypeScriptOptions,
     jsx: JsxUse,
     local: Option<&Part>,
 ) -> bool
-    ensures { result ≡ is_local_kept scoping.now (typescript_view options.now) jsx (doc_or_nil local.entry) }
+    requires { IsAnswered symbols.now }
+    ensures { result ≡ is_local_kept symbols.now.scoping.now (typescript_view options.now) jsx (doc_or_nil local.entry) }
 {
     match local {
-        Some(Part::Node(node)) => is_binding_kept(scoping, options, jsx, node),
+        Some(Part::Node(node)) => is_binding_kept(symbols, options, jsx, node),
         _ => false,
     }
 }
 
 /// Whether an import that binds the name of that node is kept, if unused imports are not.
-fn is_binding_kept(scoping: &Scoping, options: &TypeScriptOptions, jsx: JsxUse, node: &Node) -> bool
-    ensures { result ≡ is_local_kept scoping.now (typescript_view options.now) jsx (node_doc node.now) }
+fn is_binding_kept(symbols: &Symbols, options: &TypeScriptOptions, jsx: JsxUse, node: &Node) -> bool
+    requires { IsAnswered symbols.now }
+    ensures { result ≡ is_local_kept symbols.now.scoping.now (typescript_view options.now) jsx (node_doc node.now) }
 {
-    !is_declared_again(scoping, node.id)
-        && (is_used(scoping, node.id) || is_jsx_binding(options, jsx, node))
+    !is_declared_again(symbols, node.id)
+        && (is_used(symbols, node.id) || is_jsx_binding(options, jsx, node))
 }
 
 /// Whether elements or fragments use the name of that node.
@@ -240,33 +251,36 @@ fn is_jsx_part(options: &TypeScriptOptions, jsx: JsxUse, part: &Part) -> bool
 }
 
 /// Whether an export of the name that is the node there is kept.
-fn is_spelling_kept(scoping: &Scoping, local: Option<&Part>) -> bool
-    ensures { result ≡ is_spelling_kept scoping.now (doc_or_nil local.entry) }
+fn is_spelling_kept(symbols: &Symbols, local: Option<&Part>) -> bool
+    requires { IsAnswered symbols.now }
+    ensures { result ≡ is_spelling_kept symbols.now.scoping.now (doc_or_nil local.entry) }
 {
     match local {
-        Some(Part::Node(node)) => is_text_kept(scoping, node.field("name")),
+        Some(Part::Node(node)) => is_text_kept(symbols, node.field("name")),
         _ => true,
     }
 }
 
 /// Whether an export of the name that is the text there is kept.
-fn is_text_kept(scoping: &Scoping, text: Option<&Part>) -> bool
-    ensures { result ≡ is_text_kept scoping.now (doc_or_nil text.entry) }
+fn is_text_kept(symbols: &Symbols, text: Option<&Part>) -> bool
+    requires { IsAnswered symbols.now }
+    ensures { result ≡ is_text_kept symbols.now.scoping.now (doc_or_nil text.entry) }
 {
     match text {
-        Some(Part::Text(name)) => is_name_kept(scoping, name.as_str()),
-        Some(Part::Word(word)) => is_name_kept(scoping, word.text()),
+        Some(Part::Text(name)) => is_name_kept(symbols, name.as_str()),
+        Some(Part::Word(word)) => is_name_kept(symbols, word.text()),
         _ => true,
     }
 }
 
 /// Appends the name that `export default` exports, if the node is one and keeps it.
-fn push_default(scoping: &Scoping, node: &Node, out: &mut Vec<NodeId>) -> Result<(), OutOfMemory>
+fn push_default(symbols: &Symbols, node: &Node, out: &mut Vec<NodeId>) -> Result<(), OutOfMemory>
+    requires { IsAnswered symbols.now }
     ensures { OnOk result (numbers_in out.new.items ≡ numbers_in out.old.items
-        ++ kept_default scoping.now node.now.kind (docs_in node.now.parts.items)) }
+        ++ kept_default symbols.now.scoping.now node.now.kind (docs_in node.now.parts.items)) }
 {
     if node.kind.is(Kind::ExportDefaultDeclaration) {
-        push_exported(scoping, node.field("declaration"), out)
+        push_exported(symbols, node.field("declaration"), out)
     } else {
         Ok(())
     }
@@ -274,22 +288,24 @@ fn push_default(scoping: &Scoping, node: &Node, out: &mut Vec<NodeId>) -> Result
 
 /// Appends the name that is exported there, if it is one and is kept.
 fn push_exported(
-    scoping: &Scoping,
+    symbols: &Symbols,
     declaration: Option<&Part>,
     out: &mut Vec<NodeId>,
 ) -> Result<(), OutOfMemory>
+    requires { IsAnswered symbols.now }
     ensures { OnOk result (numbers_in out.new.items ≡ numbers_in out.old.items
-        ++ exported_name scoping.now (doc_or_nil declaration.entry)) }
+        ++ exported_name symbols.now.scoping.now (doc_or_nil declaration.entry)) }
 {
     match declaration {
-        Some(Part::Node(node)) => push_if(is_reference_kept(scoping, node), node.id, out),
+        Some(Part::Node(node)) => push_if(is_reference_kept(symbols, node), node.id, out),
         _ => Ok(()),
     }
 }
 
 /// Whether the node is a bare name whose export is kept.
-fn is_reference_kept(scoping: &Scoping, node: &Node) -> bool
-    ensures { result ≡ is_reference_kept scoping.now node.now.kind (docs_in node.now.parts.items) }
+fn is_reference_kept(symbols: &Symbols, node: &Node) -> bool
+    requires { IsAnswered symbols.now }
+    ensures { result ≡ is_reference_kept symbols.now.scoping.now node.now.kind (docs_in node.now.parts.items) }
 {
-    node.kind.is(Kind::IdentifierReference) && is_text_kept(scoping, node.field("name"))
+    node.kind.is(Kind::IdentifierReference) && is_text_kept(symbols, node.field("name"))
 }

@@ -8,3 +8,4 @@ pub mod kept;
 pub mod names;
 pub mod removed;
 pub mod retain;
+pub mod symbols;

@@ -1,102 +1,61 @@
 //! What the table says of the names of imports and exports.
-ghost use Rattle.std.specs.List.{list_any};
-ghost use Rattle.std.specs.Prelude.{◌≡◌};
-ghost use Rattle.oxt_scoping.specs.Scoped.{live_at};
-ghost use Rattle.oxt_modules.specs.Names.{declarations_of, declared_symbol, has_other_value, has_value_use, is_declared_again, is_name_kept, is_type_name, is_used, is_value_use, references_of};
+ghost use Rattle.std.specs.Prelude.{◌≡◌, option_map};
+ghost use Rattle.oxt_modules.specs.Names.{declared_symbol, is_declared_again, is_name_kept, is_type_name, is_used};
+ghost use Rattle.oxt_modules.specs.Symbols.{IsAnswered, asked};
 
-use bitflags::Flags;
-use oxt_names::flags::ReferenceFlags;
-use oxt_names::ids::ReferenceId;
-use oxt_scoping::entry::Redeclaration;
-use oxt_scoping::scoping::Scoping;
+use crate::symbols::{SymbolAnswers, Symbols};
 use oxt_tree::ids::NodeId;
 
-/// The declarations of the symbol that the node declares; none where it declares none.
-#[tactic(auto, using(crate::proofs::Tables::declarations_found))]
-fn declarations_by(scoping: &Scoping, node: NodeId) -> &[Redeclaration]
-    ensures { result.now ≡ declarations_of (declared_symbol scoping.now node.0) }
+/// What is asked of the symbol that the node declares; nothing where it declares none.
+fn declared_by(symbols: &Symbols, node: NodeId) -> Option<SymbolAnswers>
+    requires { IsAnswered symbols.now }
+    ensures { result
+        ≡ option_map (asked symbols.now.scoping.now.references) (declared_symbol symbols.now.scoping.now node.0) }
 {
-    match scoping.symbol_of(node) {
-        Some(symbol) => scoping.symbol_redeclarations(symbol),
-        None => &[],
-    }
-}
-
-/// The references to the symbol that the node declares; none where it declares none.
-#[tactic(auto, using(crate::proofs::Tables::references_found))]
-fn references_to(scoping: &Scoping, node: NodeId) -> &[ReferenceId]
-    ensures { result.now ≡ references_of (declared_symbol scoping.now node.0) }
-{
-    match scoping.symbol_of(node) {
-        Some(symbol) => scoping.get_resolved_references(symbol),
-        None => &[],
-    }
+    symbols.get(symbols.scoping.symbol_of(node))
 }
 
 /// Whether another declaration of the symbol that the node declares is more than a type.
-pub fn is_declared_again(scoping: &Scoping, node: NodeId) -> bool
-    ensures { result ≡ is_declared_again scoping.now node.0 }
+#[tactic(auto, using(crate::proofs::Tables::again_found))]
+pub fn is_declared_again(symbols: &Symbols, node: NodeId) -> bool
+    requires { IsAnswered symbols.now }
+    ensures { result ≡ is_declared_again symbols.now.scoping.now node.0 }
 {
-    has_other_value(node, declarations_by(scoping, node))
-}
-
-/// Whether one of the declarations is of another node and more than a type.
-fn has_other_value(node: NodeId, declarations: &[Redeclaration]) -> bool
-    ensures { result ≡ has_other_value node.0 declarations.now }
-{
-    declarations.iter().any(|declaration| declaration.node.0 != node.0
-        && !declaration.flags.is_type_alone())
+    match declared_by(symbols, node) {
+        Some(symbol) => symbol.declares_besides(node),
+        None => false,
+    }
 }
 
 /// Whether a value use means the symbol that the node declares.
-pub fn is_used(scoping: &Scoping, node: NodeId) -> bool
-    ensures { result ≡ is_used scoping.now node.0 }
+#[tactic(auto, using(crate::proofs::Tables::use_found))]
+pub fn is_used(symbols: &Symbols, node: NodeId) -> bool
+    requires { IsAnswered symbols.now }
+    ensures { result ≡ is_used symbols.now.scoping.now node.0 }
 {
-    has_value_use(scoping, references_to(scoping, node))
-}
-
-/// Whether one of the references is a value use.
-fn has_value_use(scoping: &Scoping, references: &[ReferenceId]) -> bool
-    ensures { result ≡ has_value_use scoping.now.references references.now }
-{
-    references
-        .iter()
-        .any(|reference| is_value_use(scoping, *reference))
-}
-
-/// Whether the reference is there and does not stand in a type.
-fn is_value_use(scoping: &Scoping, reference: ReferenceId) -> bool
-    ensures { result ≡ is_value_use (live_at scoping.now.references reference.0) }
-{
-    if scoping.has_reference(reference) {
-        let flags = scoping.get_reference(reference).flags;
-        !flags.intersects(ReferenceFlags::TypeUse)
-    } else {
-        false
+    match declared_by(symbols, node) {
+        Some(symbol) => symbol.is_used,
+        None => false,
     }
 }
 
 /// Whether the program's scope binds the name to what emits no code.
 #[tactic(auto, using(crate::proofs::Tables::emission_found))]
-fn is_type_name(scoping: &Scoping, name: &str) -> bool
-    ensures { result ≡ is_type_name scoping.now name.now }
+fn is_type_name(symbols: &Symbols, name: &str) -> bool
+    requires { IsAnswered symbols.now }
+    ensures { result ≡ is_type_name symbols.now.scoping.now name.now }
 {
-    match scoping.get_binding(scoping.root_scope_id(), name) {
-        Some(symbol) => !emits(scoping.symbol_redeclarations(symbol)),
+    let root = symbols.scoping.root_scope_id();
+    match symbols.get(symbols.scoping.get_binding(root, name)) {
+        Some(symbol) => !symbol.emits,
         None => false,
     }
 }
 
-/// Whether one of the declarations emits code.
-fn emits(declarations: &[Redeclaration]) -> bool
-    ensures { result ≡ list_any (λ d. d.emits) declarations.now }
-{
-    declarations.iter().any(|declaration| declaration.emits)
-}
-
 /// Whether an export of the name stays.
-pub fn is_name_kept(scoping: &Scoping, name: &str) -> bool
-    ensures { result ≡ is_name_kept scoping.now name.now }
+pub fn is_name_kept(symbols: &Symbols, name: &str) -> bool
+    requires { IsAnswered symbols.now }
+    ensures { result ≡ is_name_kept symbols.now.scoping.now name.now }
 {
-    !is_type_name(scoping, name)
+    !is_type_name(symbols, name)
 }

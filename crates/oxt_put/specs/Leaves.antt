@@ -1,9 +1,10 @@
 -- What nodes without further parts do, and what becomes of a value that is dropped.
 use Rattle.std.specs.Prelude.{ℕ, List, [], ◌∷◌, ◌++◌, Bool, true, false, if◌then◌else◌, Option, None, Some, codes}
-use Rattle.oxt_facts.specs.Facts.{Known, is_made}
+use Rattle.oxt_facts.specs.Facts.{Known, group_at, is_made}
 use Rattle.oxt_facts.specs.Inside.{stored_at}
 use Rattle.oxt_forms.specs.Made.{base_key, base_name}
-use Rattle.oxt_facts.specs.Entry.{Entry, binding_text, detail, detailed, lone, spelled}
+use Rattle.oxt_facts.specs.Entry.{Entry, binding_text, detail, lone, owned, spelled}
+use Rattle.oxt_facts.specs.Owners.{owner_in}
 use Rattle.oxt_facts.specs.declared.item.Binding.{Binding}
 use Rattle.oxt_facts.specs.declared.item.ItemKind.{ItemKind}
 use Rattle.oxt_facts.specs.declared.item.ItemKind.TheVariants as item
@@ -11,11 +12,11 @@ use Rattle.oxt_grammar.specs.declared.kind.Kind.{Kind}
 use Rattle.oxt_tree.specs.Doc.{Doc, Docs, flag, text}
 use Rattle.oxt_tree.specs.Fields.{first, is_nil, named}
 
--- the use of a name, which may be made
-abbrev pub name_word : Known → Docs → List Entry
-name_word f ds =
+-- the use of the name of that number, which may be made
+abbrev pub name_word : Known → ℕ → Docs → List Entry
+name_word f i ds =
     if is_made f (first ds) then spelled item.Made (detail (first ds))
-    else spelled item.Name (detail (first ds))
+    else owned (group_at f i) item.Name (detail (first ds)) []
 
 -- the made name, or else the private name
 abbrev pub private_or : Docs → Option (List ℕ) → List Entry
@@ -26,10 +27,10 @@ private_or ds (Some m) = spelled item.PrivateMade (text m)
 abbrev pub private_word : Known → Docs → List Entry
 private_word f ds = private_or ds (stored_at f (first ds))
 
--- a declared name, which may be made
-abbrev pub bind_word : Known → Binding → Bool → Docs → List Entry
-bind_word f b x ds =
-    detailed (if is_made f (first ds) then item.BindMade else item.Bind) (detail (first ds))
+-- the declared name of that number, which may be made
+abbrev pub bind_word : Known → Binding → Bool → ℕ → Docs → List Entry
+bind_word f b x i ds =
+    owned (owner_in f.owners i) (if is_made f (first ds) then item.BindMade else item.Bind) (detail (first ds))
     (text (binding_text b) ∷ flag x ∷ [])
 
 -- The kind of a value that a made name holds.
@@ -62,7 +63,7 @@ hash_word d = if is_nil d then [] else spelled item.Hash (detail d)
 abbrev pub base_word : Doc → List Entry
 base_word m = spelled item.Made (detail (base_name m)) ++ spelled item.Str (detail (base_key m))
 
--- the entry into a called function, whose parameter may have a made name
-abbrev pub in_word : Known → Bool → Docs → List Entry
-in_word f p ds =
-    detailed (if is_made f (first ds) then item.InMade else item.In) (detail (first ds)) (flag p ∷ [])
+-- the entry into a called function, whose parameter is the name of that number and may be made
+abbrev pub in_word : Known → Bool → ℕ → Docs → List Entry
+in_word f p i ds =
+    owned (owner_in f.owners i) (if is_made f (first ds) then item.InMade else item.In) (detail (first ds)) (flag p ∷ [])

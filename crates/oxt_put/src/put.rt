@@ -6,7 +6,7 @@ ghost use Rattle.oxt_tree.specs.Fields.{first};
 ghost use Rattle.oxt_tree.specs.Doc.{flag, nil};
 ghost use Rattle.oxt_tree.specs.Fields.{field_of, named, is_nil};
 ghost use Rattle.oxt_tree.specs.View.{docs_in, doc_or_nil, part_doc};
-ghost use Rattle.oxt_facts.specs.Entry.{atom_doc, detail, detailed, entries, entry_of, lone, spelled};
+ghost use Rattle.oxt_facts.specs.Entry.{atom_doc, detail, detailed, entries, entry_of, lone, owned, spelled};
 ghost use Rattle.oxt_put.specs.Details.{details, is_atom, is_detail, is_read, start};
 ghost use Rattle.oxt_put.specs.Leaves.{base_word, bind_word, dropped, ends_kept, hash_word, in_word, is_kept_kind, name_word, number_word, private_word};
 ghost use Rattle.oxt_facts.specs.Facts.{is_made};
@@ -66,10 +66,25 @@ pub fn put_detailed(
     ensures { OnOk result (entries out.new.items
         ≡ entries out.old.items ++ detailed kind (atom_doc spelling) (map atom_doc details.items)) }
 {
+    put_owned(None, kind, spelling, details, out)
+}
+
+/// Puts an item of a name with that group.
+pub fn put_owned(
+    group: Option<u64>,
+    kind: ItemKind,
+    spelling: Atom,
+    details: Vec<Atom>,
+    out: &mut Vec<Item>,
+) -> Result<(), OutOfMemory>
+    ensures { OnOk result (entries out.new.items
+        ≡ entries out.old.items ++ owned group kind (atom_doc spelling) (map atom_doc details.items)) }
+{
     let item = Item {
         kind,
         spelling,
         details,
+        group,
     };
     put(item, out)
 }
@@ -200,14 +215,19 @@ pub fn put_first(
 /// Puts the use of the name, which may be made.
 pub fn put_name(facts: &Facts, node: &Node, out: &mut Vec<Item>) -> Result<(), OutOfMemory>
     ensures { OnOk result (entries out.new.items
-        ≡ entries out.old.items ++ name_word facts.now (docs_in node.now.parts.items)) }
+        ≡ entries out.old.items ++ name_word facts.now node.now.id.0 (docs_in node.now.parts.items)) }
 {
-    let kind = if begins_made(facts, node) {
-        ItemKind::Made
-    } else {
-        ItemKind::Name
-    };
-    put_first(facts.memory(), kind, node, out)
+    if begins_made(facts, node) {
+        return put_first(facts.memory(), ItemKind::Made, node, out);
+    }
+    let group = facts.group_of(node.id);
+    put_owned(
+        group,
+        ItemKind::Name,
+        first_atom(node)?,
+        Vec::new(facts.memory()),
+        out,
+    )
 }
 
 /// Whether the node's own text is the spelling of a made name.
@@ -255,7 +275,7 @@ pub fn put_bind(
 ) -> Result<(), OutOfMemory>
     ensures { OnOk result (entries out.new.items
         ≡ entries out.old.items
-        ++ bind_word facts.now binding exported (docs_in node.now.parts.items)) }
+        ++ bind_word facts.now binding exported node.now.id.0 (docs_in node.now.parts.items)) }
 {
     let kind = if begins_made(facts, node) {
         ItemKind::BindMade
@@ -263,7 +283,8 @@ pub fn put_bind(
         ItemKind::Bind
     };
     let details = vec![in facts.memory(); Atom::Binding(binding), Atom::Flag(exported)]?;
-    put_detailed(kind, first_atom(node)?, details, out)
+    let group = facts.declared_group(node.id);
+    put_owned(group, kind, first_atom(node)?, details, out)
 }
 
 /// Puts the entry into a function, whose parameter is the name, by a call with that pure flag.
@@ -274,7 +295,7 @@ pub fn put_in(
     out: &mut Vec<Item>,
 ) -> Result<(), OutOfMemory>
     ensures { OnOk result (entries out.new.items
-        ≡ entries out.old.items ++ in_word facts.now pure (docs_in node.now.parts.items)) }
+        ≡ entries out.old.items ++ in_word facts.now pure node.now.id.0 (docs_in node.now.parts.items)) }
 {
     let kind = if begins_made(facts, node) {
         ItemKind::InMade
@@ -282,7 +303,8 @@ pub fn put_in(
         ItemKind::In
     };
     let details = vec![in facts.memory(); Atom::Flag(pure)]?;
-    put_detailed(kind, first_atom(node)?, details, out)
+    let group = facts.declared_group(node.id);
+    put_owned(group, kind, first_atom(node)?, details, out)
 }
 
 /// The name to which an assignment assigns.

@@ -1,2 +1,3 @@
 pub mod Found
+pub mod Grouped
 pub mod Loops

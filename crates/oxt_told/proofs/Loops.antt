@@ -5,7 +5,7 @@ use Rattle.oxt_facts.specs.Told.{Tellings}
 use Rattle.oxt_scoping.specs.Scoped.{Scoped, live_at}
 use Rattle.oxt_names.specs.declared.ids.ReferenceId.{ReferenceId}
 use Rattle.oxt_told.specs.Modules.{specifier_told, specifiers_told, statement_told, statements_told}
-use Rattle.oxt_told.specs.Source.{all_told, bare_at, bares, member_name, member_told, members_told, told_in, told_in_each}
+use Rattle.oxt_told.specs.Source.{Around, Asked, all_told, bare_at, bares, member_bares, member_name, member_told, members_bares, members_told, told_in, told_in_each}
 use Rattle.oxt_told.specs.Syntax.{is_text_form, some_text_form}
 use Rattle.oxt_tree.proofs.Lists.{drop_at, drop_end}
 use Rattle.oxt_tree.specs.View.{docs_in, part_doc}
@@ -31,7 +31,7 @@ pub ruleset form_steps = (form_more, form_done)
 
 -- ---- members
 
-pub member_more : (s : Scoped) (e : List ℕ) (before after : Option (List ℕ)) (ts new : Tellings) (ps : List Part) (i : ℕ) (p : Part) → i < length ps → p ≡ get_or ps i p
+pub member_more : (s : Scoped) (e : Around) (before after : Option (List ℕ)) (ts new : Tellings) (ps : List Part) (i : ℕ) (p : Part) → i < length ps → p ≡ get_or ps i p
     → new ≡ all_told ts (member_told s e before (part_doc p)) → after ≡ member_name s (part_doc p)
     → all_told ts (members_told s e before (docs_in (drop i ps))) ≡ all_told new (members_told s e after (docs_in (drop (i + 1) ps)))
 member_more s e before after ts new ps i p lt here told named =
@@ -40,14 +40,29 @@ member_more s e before after ts new ps i p lt here told named =
     ∙ ap (λ x. all_told x (members_told s e (member_name s (part_doc p)) (docs_in (drop (i + 1) ps)))) (sym told)
     ∙ ap (λ a. all_told new (members_told s e a (docs_in (drop (i + 1) ps)))) (sym named)
 
-pub member_done : (s : Scoped) (e : List ℕ) (before : Option (List ℕ)) (ts : Tellings) (ps : List Part) (i : ℕ) → length ps ≤ i → all_told ts (members_told s e before (docs_in (drop i ps))) ≡ ts
+pub member_done : (s : Scoped) (e : Around) (before : Option (List ℕ)) (ts : Tellings) (ps : List Part) (i : ℕ) → length ps ≤ i → all_told ts (members_told s e before (docs_in (drop i ps))) ≡ ts
 member_done s e before ts ps i le = ap (λ qs. all_told ts (members_told s e before (docs_in qs))) (drop_end ps i le)
 
 pub ruleset member_steps = (member_more, member_done)
 
+-- ---- members of a block that emits nothing
+
+pub ambient_more : (s : Scoped) (e : Around) (ts new : Tellings) (ps : List Part) (i : ℕ) (p : Part) → i < length ps → p ≡ get_or ps i p
+    → new ≡ all_told ts (member_bares s e (part_doc p))
+    → all_told ts (members_bares s e (docs_in (drop i ps))) ≡ all_told new (members_bares s e (docs_in (drop (i + 1) ps)))
+ambient_more s e ts new ps i p lt here told =
+    ap (λ qs. all_told ts (members_bares s e (docs_in qs))) (drop_at ps i p lt here)
+    ∙ all_told-append ts (member_bares s e (part_doc p)) (members_bares s e (docs_in (drop (i + 1) ps)))
+    ∙ ap (λ x. all_told x (members_bares s e (docs_in (drop (i + 1) ps)))) (sym told)
+
+pub ambient_done : (s : Scoped) (e : Around) (ts : Tellings) (ps : List Part) (i : ℕ) → length ps ≤ i → all_told ts (members_bares s e (docs_in (drop i ps))) ≡ ts
+ambient_done s e ts ps i le = ap (λ qs. all_told ts (members_bares s e (docs_in qs))) (drop_end ps i le)
+
+pub ruleset ambient_steps = (ambient_more, ambient_done)
+
 -- ---- references
 
-pub bare_more : (s : Scoped) (e : List ℕ) (ts new : Tellings) (rs : List ReferenceId) (i : ℕ) (r : ReferenceId) → i < length rs → r ≡ get_or rs i r
+pub bare_more : (s : Scoped) (e : Around) (ts new : Tellings) (rs : List ReferenceId) (i : ℕ) (r : ReferenceId) → i < length rs → r ≡ get_or rs i r
     → new ≡ all_told ts (bare_at e (live_at s.references r.0))
     → all_told ts (bares s e (drop i rs)) ≡ all_told new (bares s e (drop (i + 1) rs))
 bare_more s e ts new rs i r lt here told =
@@ -55,14 +70,14 @@ bare_more s e ts new rs i r lt here told =
     ∙ all_told-append ts (bare_at e (live_at s.references r.0)) (bares s e (drop (i + 1) rs))
     ∙ ap (λ x. all_told x (bares s e (drop (i + 1) rs))) (sym told)
 
-pub bare_done : (s : Scoped) (e : List ℕ) (ts : Tellings) (rs : List ReferenceId) (i : ℕ) → length rs ≤ i → all_told ts (bares s e (drop i rs)) ≡ ts
+pub bare_done : (s : Scoped) (e : Around) (ts : Tellings) (rs : List ReferenceId) (i : ℕ) → length rs ≤ i → all_told ts (bares s e (drop i rs)) ≡ ts
 bare_done s e ts rs i le = ap (λ qs. all_told ts (bares s e qs)) (drop_end rs i le)
 
 pub ruleset bare_steps = (bare_more, bare_done)
 
 -- ---- blocks
 
-pub each_more : (s : Scoped) (f : List ℕ) (ts new : Tellings) (ps : List Part) (i : ℕ) (p : Part) → i < length ps → p ≡ get_or ps i p
+pub each_more : (s : Scoped) (f : Asked) (ts new : Tellings) (ps : List Part) (i : ℕ) (p : Part) → i < length ps → p ≡ get_or ps i p
     → new ≡ all_told ts (told_in s f (part_doc p))
     → all_told ts (told_in_each s f (docs_in (drop i ps))) ≡ all_told new (told_in_each s f (docs_in (drop (i + 1) ps)))
 each_more s f ts new ps i p lt here told =
@@ -70,7 +85,7 @@ each_more s f ts new ps i p lt here told =
     ∙ all_told-append ts (told_in s f (part_doc p)) (told_in_each s f (docs_in (drop (i + 1) ps)))
     ∙ ap (λ x. all_told x (told_in_each s f (docs_in (drop (i + 1) ps)))) (sym told)
 
-pub each_done : (s : Scoped) (f : List ℕ) (ts : Tellings) (ps : List Part) (i : ℕ) → length ps ≤ i → all_told ts (told_in_each s f (docs_in (drop i ps))) ≡ ts
+pub each_done : (s : Scoped) (f : Asked) (ts : Tellings) (ps : List Part) (i : ℕ) → length ps ≤ i → all_told ts (told_in_each s f (docs_in (drop i ps))) ≡ ts
 each_done s f ts ps i le = ap (λ qs. all_told ts (told_in_each s f (docs_in qs))) (drop_end ps i le)
 
 pub ruleset each_steps = (each_more, each_done)

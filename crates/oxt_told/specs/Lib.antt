@@ -1,3 +1,5 @@
+pub mod Groups
 pub mod Modules
 pub mod Source
 pub mod Syntax
+pub mod Whole

@@ -3,7 +3,6 @@ use Rattle.std.specs.Prelude.{ℕ, [], ◌∷◌, ◌++◌, Bool, if◌then◌el
 use Rattle.oxt_facts.specs.Told.{Tellings, gone, listless}
 use Rattle.oxt_modules.specs.Removed.{is_listing, is_removed_by, loses_all}
 use Rattle.oxt_grammar.specs.declared.kind.Kind.{Kind}
-use Rattle.oxt_told.specs.Source.{all_told}
 use Rattle.oxt_tree.specs.Doc.{Doc, node, Docs, no_docs, doc}
 use Rattle.oxt_tree.specs.Fields.{elements, field_of, named}
 
@@ -35,7 +34,7 @@ abbrev pub statements_told : (ℕ → Bool) → Bool → Docs → Tellings
 statements_told ks all no_docs = []
 statements_told ks all (doc d ds) = statement_told ks all d ++ statements_told ks all ds
 
--- What is told of a program: a statement that is removed does nothing, nor does a specifier that is not kept, and an
--- import that stays may lose its list. With `all` such an import stays.
-abbrev pub told_of_modules : (ℕ → Bool) → Bool → Doc → Tellings
-told_of_modules ks all d = all_told [] (statements_told ks all (elements (field_of (codes "body") d)))
+-- What is told of the statements of a program: one that is removed does nothing, nor does a specifier that is not kept, and
+-- an import that stays may lose its list. With `all` such an import stays.
+abbrev pub modules_told : (ℕ → Bool) → Bool → Doc → Tellings
+modules_told ks all d = statements_told ks all (elements (field_of (codes "body") d))

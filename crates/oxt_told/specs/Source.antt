@@ -1,11 +1,13 @@
--- What is told of the enums of a source, by its table of scopes and symbols and the blocks that are first.
+-- What is told of the enums of a source, and of the expressions that are inlined, by its table of scopes and symbols and
+-- by its plan.
 use Rattle.std.specs.Prelude.{ℕ, ◌==◌, List, [], ◌∷◌, ◌++◌, Bool, true, false, not, ◌&&◌, if◌then◌else◌, nat_eq, Option, None, Some, codes}
 use Rattle.indexmap.specs.IndexMap.{insert_entry}
-use Rattle.oxt_facts.specs.Told.{Tellings, Value, block, member, bare, constant, following, written}
+use Rattle.oxt_facts.specs.Told.{Tellings, Value, block, member, bare, inlined, gone, constant, following, written}
 use Rattle.oxt_modules.specs.Names.{declared_symbol}
-use Rattle.oxt_options.specs.Facts.{is_in}
+use Rattle.oxt_options.specs.Facts.{Facts, constant_at, is_in}
 use Rattle.oxt_scoping.specs.Entries.{SymbolData}
 use Rattle.oxt_scoping.specs.Scoped.{Scoped, live_at}
+use Rattle.oxt_scoping.specs.declared.entry.Redeclaration.{Redeclaration}
 use Rattle.oxt_scoping.specs.declared.entry.Reference.{Reference}
 use Rattle.oxt_names.specs.Constant.{Constant, integer, string}
 use Rattle.oxt_names.specs.declared.ids.ReferenceId.{ReferenceId}
@@ -14,7 +16,9 @@ use Rattle.oxt_grammar.specs.declared.kind.Kind.{Kind}
 use Rattle.oxt_grammar.specs.declared.kind.Kind.TheVariants as kind
 use Rattle.oxt_told.specs.Syntax.{is_pure, is_text_form}
 use Rattle.oxt_tree.specs.Doc.{Doc, nil, flag, number, text, list, node, Docs, no_docs, doc}
+use Rattle.oxt_told.specs.declared.members.EnumAround.{EnumAround}
 use Rattle.oxt_tree.specs.Fields.{elements, field_of, is_nil, named}
+use Rattle.oxt_tree.specs.Names.{name_bytes}
 use Rattle.oxt_unbuilt.specs.Dropped.{is_dropped_by}
 
 -- ---- members
@@ -38,27 +42,47 @@ is_text_constant (Some (string t)) = true
 abbrev pub is_reversed : Option Constant → Doc → Bool
 is_reversed c d = not (is_text_constant c) && not (is_text_form d)
 
+-- ---- enums
+
+-- an enum around its members: its name, the group of that, and the number of the block in which they stand
+pub record Around : Type 0 where
+  pub name : List ℕ
+  pub group : Option ℕ
+  pub block : ℕ
+
+abbrev pub around_view : EnumAround → Around
+around_view a = record { name = name_bytes a.name.now; group = a.group; block = a.block }
+
+-- the number of the first node that declares a name
+abbrev pub first_node : List Redeclaration → Option ℕ
+first_node [] = None
+first_node (d ∷ ds) = Some d.node.0
+
+-- the enum of that symbol around the block of that number
+abbrev pub around : SymbolData → ℕ → Around
+around y i = record { name = y.name; group = first_node y.declarations; block = i }
+
 -- a reference that was not deleted is a bare name of a member of that enum
-abbrev pub bare_at : List ℕ → Option Reference → Tellings
-bare_at e None = []
-bare_at e (Some r) = (r.node.0, bare e) ∷ []
+abbrev pub bare_at : Around → Option Reference → Tellings
+bare_at a None = []
+bare_at a (Some r) = (r.node.0, bare a.name a.group) ∷ []
 
-abbrev pub bares : Scoped → List ℕ → List ReferenceId → Tellings
-bares s e [] = []
-bares s e (r ∷ rs) = bare_at e (live_at s.references r.0) ++ bares s e rs
+abbrev pub bares : Scoped → Around → List ReferenceId → Tellings
+bares s a [] = []
+bares s a (r ∷ rs) = bare_at a (live_at s.references r.0) ++ bares s a rs
 
--- a member of that number and initializer, whose symbol that is, of the enum of that name, behind the member of
--- that name; and the bare names that mean it
-abbrev pub symbol_told : Scoped → List ℕ → Option (List ℕ) → ℕ → Doc → Option SymbolData → Tellings
-symbol_told s e p i d None = []
-symbol_told s e p i d (Some y) =
-    (i, member (record { owner = e; name = y.name; value = value_of y.value p d; is_reversed = is_reversed y.value d }))
-    ∷ bares s e y.references
+-- a member of that number and initializer, whose symbol that is, of that enum, behind the member of that name; and the
+-- bare names that mean it
+abbrev pub symbol_told : Scoped → Around → Option (List ℕ) → ℕ → Doc → Option SymbolData → Tellings
+symbol_told s a p i d None = []
+symbol_told s a p i d (Some y) =
+    (i, member (record { owner = a.name; block = a.block; name = y.name; value = value_of y.value p d; is_reversed = is_reversed y.value d }))
+    ∷ bares s a y.references
 
-abbrev pub member_told : Scoped → List ℕ → Option (List ℕ) → Doc → Tellings
-member_told s e p (node k i b t ds) =
-    symbol_told s e p i (named (codes "initializer") k ds) (declared_symbol s i)
-member_told s e p d = []
+abbrev pub member_told : Scoped → Around → Option (List ℕ) → Doc → Tellings
+member_told s a p (node k i b t ds) =
+    symbol_told s a p i (named (codes "initializer") k ds) (declared_symbol s i)
+member_told s a p d = []
 
 abbrev pub name_in : Option SymbolData → Option (List ℕ)
 name_in None = None
@@ -69,12 +93,39 @@ abbrev pub member_name : Scoped → Doc → Option (List ℕ)
 member_name s (node k i b t ds) = name_in (declared_symbol s i)
 member_name s d = None
 
--- the members of a block of the enum of that name, behind the member of that name
-abbrev pub members_told : Scoped → List ℕ → Option (List ℕ) → Docs → Tellings
-members_told s e p no_docs = []
-members_told s e p (doc d ds) = member_told s e p d ++ members_told s e (member_name s d) ds
+-- the members of a block of that enum, behind the member of that name
+abbrev pub members_told : Scoped → Around → Option (List ℕ) → Docs → Tellings
+members_told s a p no_docs = []
+members_told s a p (doc d ds) = member_told s a p d ++ members_told s a (member_name s d) ds
+
+-- the bare names that mean the member of that symbol
+abbrev pub symbol_bares : Scoped → Around → Option SymbolData → Tellings
+symbol_bares s a None = []
+symbol_bares s a (Some y) = bares s a y.references
+
+abbrev pub member_bares : Scoped → Around → Doc → Tellings
+member_bares s a (node k i b t ds) = symbol_bares s a (declared_symbol s i)
+member_bares s a d = []
+
+-- those that mean the members of a block that emits nothing: in other blocks of its enum they are read as its members
+abbrev pub members_bares : Scoped → Around → Docs → Tellings
+members_bares s a no_docs = []
+members_bares s a (doc d ds) = member_bares s a d ++ members_bares s a ds
 
 -- ---- blocks
+
+-- what the plan says of nodes by their numbers: which specifiers are kept, which blocks are first, which are dropped, and
+-- which expressions are inlined
+pub record Asked : Type 0 where
+  pub kept : ℕ → Bool
+  pub first : ℕ → Bool
+  pub dropped : ℕ → Bool
+  pub inlined : ℕ → Option Constant
+
+-- what a plan that knows that says
+abbrev pub asked_of : Facts → Asked
+asked_of p =
+    record { kept = is_in p.kept; first = is_in p.first; dropped = is_in p.dropped; inlined = constant_at p.inlined }
 
 -- the number of a node
 abbrev pub number_in : Doc → Option ℕ
@@ -86,44 +137,67 @@ abbrev pub symbol_in : Scoped → Option ℕ → Option SymbolData
 symbol_in s None = None
 symbol_in s (Some i) = declared_symbol s i
 
--- a block with these members, whose enum's symbol that is
-abbrev pub block_told : Scoped → List ℕ → ℕ → Docs → Option SymbolData → Tellings
-block_told s f i ms None = []
-block_told s f i ms (Some y) =
-    (i, block (record { name = y.name; is_first = is_in f i; is_top = y.scope.0 == 0; is_pure = is_pure ms }))
-    ∷ members_told s y.name None ms
+-- a block of that number with these members, whose enum's symbol that is
+abbrev pub block_told : Scoped → Asked → ℕ → Docs → Option SymbolData → Tellings
+block_told s p i ms None = []
+block_told s p i ms (Some y) =
+    (i, block (record { name = y.name; group = first_node y.declarations; node = i; is_first = p.first i; is_top = y.scope.0 == 0; is_pure = is_pure ms }))
+    ∷ members_told s (around y i) None ms
+
+-- the same of one that emits nothing
+abbrev pub ambient_told : Scoped → ℕ → Docs → Option SymbolData → Tellings
+ambient_told s i ms None = []
+ambient_told s i ms (Some y) = members_bares s (around y i) ms
 
 -- the members of a block
 abbrev pub members_in : Kind → Docs → Docs
 members_in k ds = elements (field_of (codes "members") (named (codes "body") k ds))
 
--- a node of that number and its members, if it is a block that emits code
-abbrev pub own_told : Scoped → List ℕ → Kind → ℕ → Docs → Tellings
-own_told s f k i ds =
-    if same_kind k kind.TSEnumDeclaration && not (is_dropped_by k ds)
-    then block_told s f i (members_in k ds)
-    (symbol_in s (number_in (named (codes "id") k ds)))
+-- the symbol of a block's enum
+abbrev pub enum_symbol : Scoped → Kind → Docs → Option SymbolData
+enum_symbol s k ds = symbol_in s (number_in (named (codes "id") k ds))
+
+-- a block of an enum: one that is ambient, one that is dropped, and one that becomes a function
+abbrev pub enum_told : Scoped → Asked → Kind → ℕ → Docs → Tellings
+enum_told s p k i ds =
+    if is_dropped_by k ds then ambient_told s i (members_in k ds) (enum_symbol s k ds)
+    else if p.dropped i then (i, gone) ∷ []
+    else block_told s p i (members_in k ds) (enum_symbol s k ds)
+
+-- an expression with that constant
+abbrev pub inlined_told : ℕ → Option Constant → Tellings
+inlined_told i None = []
+inlined_told i (Some v) = (i, inlined v) ∷ []
+
+-- the kinds of expressions that may be inlined: members, and the chains that hold them
+abbrev pub may_be_inlined : Kind → Bool
+may_be_inlined kind.StaticMemberExpression = true
+may_be_inlined kind.ComputedMemberExpression = true
+may_be_inlined kind.ChainExpression = true
+may_be_inlined k = false
+
+-- a node: an expression that is inlined, or a block of an enum
+abbrev pub own_told : Scoped → Asked → Kind → ℕ → Docs → Tellings
+own_told s p k i ds =
+    if may_be_inlined k then inlined_told i (p.inlined i)
+    else if same_kind k kind.TSEnumDeclaration then enum_told s p k i ds
     else []
 
--- the blocks in a document, where the blocks of these numbers are first
+-- the blocks and the inlined expressions in a document
 abbrev mutual
-  pub told_in : Scoped → List ℕ → Doc → Tellings
-  told_in s f nil = []
-  told_in s f (flag b) = []
-  told_in s f (number n) = []
-  told_in s f (text t) = []
-  told_in s f (list ds) = told_in_each s f ds
-  told_in s f (node k i b e ds) = own_told s f k i ds ++ told_in_each s f ds
+  pub told_in : Scoped → Asked → Doc → Tellings
+  told_in s p nil = []
+  told_in s p (flag b) = []
+  told_in s p (number n) = []
+  told_in s p (text t) = []
+  told_in s p (list ds) = told_in_each s p ds
+  told_in s p (node k i b e ds) = own_told s p k i ds ++ told_in_each s p ds
 
-  pub told_in_each : Scoped → List ℕ → Docs → Tellings
-  told_in_each s f no_docs = []
-  told_in_each s f (doc d ds) = told_in s f d ++ told_in_each s f ds
+  pub told_in_each : Scoped → Asked → Docs → Tellings
+  told_in_each s p no_docs = []
+  told_in_each s p (doc d ds) = told_in s p d ++ told_in_each s p ds
 
 -- these tellings over those
 abbrev pub all_told : Tellings → Tellings → Tellings
 all_told ts [] = ts
 all_told ts (e ∷ es) = all_told (insert_entry nat_eq ts e.0 e.1) es
-
--- what is told of the source
-abbrev pub told_of_source : Scoped → List ℕ → Doc → Tellings
-told_of_source s f d = all_told [] (told_in s f d)

@@ -1,8 +1,10 @@
-//! What is told of a source: of the blocks of its enums, their members and the bare names that mean members, and of the
-//! imports, exports and specifiers that go.
+//! What the reading of a tree is told of it: of a source, the imports, exports and specifiers that go, the blocks of its
+//! enums, their members, the bare names that mean members and the expressions that are inlined; and of any tree the groups
+//! of its names.
 #![tactic(auto)]
 
+pub mod groups;
 mod members;
-pub mod modules;
+mod modules;
 mod syntax;
 pub mod told;

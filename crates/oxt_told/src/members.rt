@@ -5,7 +5,7 @@ ghost use Rattle.oxt_facts.specs.Told.{member, value_view};
 ghost use Rattle.oxt_modules.specs.Names.{declared_symbol};
 ghost use Rattle.oxt_scoping.specs.Scoped.{live_at};
 ghost use Rattle.oxt_names.specs.Constant.{constant_view};
-ghost use Rattle.oxt_told.specs.Source.{all_told, bare_at, bares, following_or, is_reversed, is_text_constant, member_name, member_told, members_told, name_in, symbol_told, value_of};
+ghost use Rattle.oxt_told.specs.Source.{all_told, around_view, bare_at, bares, following_or, is_reversed, is_text_constant, member_bares, member_name, member_told, members_bares, members_told, name_in, symbol_bares, symbol_told, value_of};
 ghost use Rattle.oxt_tree.specs.Fields.{named};
 ghost use Rattle.oxt_tree.specs.Names.{name_bytes};
 ghost use Rattle.oxt_tree.specs.View.{docs_in, doc_or_nil, part_doc};
@@ -19,38 +19,49 @@ use oxt_tree::ids::{NodeId, OutOfMemory};
 use oxt_tree::name::Name;
 use oxt_tree::tree::{Node, Part};
 
-/// Tells of the members of a block of the enum of that name.
+/// An enum around its members.
+#[derive(Clone, Copy)]
+pub struct EnumAround<'a> {
+    /// Its name.
+    pub name: &'a Name,
+    /// The group of that.
+    pub group: Option<u64>,
+    /// The number of the block in which the members stand.
+    pub block: u64,
+}
+
+/// Tells of the members of a block of that enum.
 #[tactic(auto, using(crate::proofs::Loops::member_steps))]
 pub fn tell_members(
     scoping: &Scoping,
-    owner: &Name,
+    around: &EnumAround,
     members: &[Part],
     told: &mut ToldNodes,
 ) -> Result<(), OutOfMemory>
     ensures { OnOk result (told.new
-        ≡ all_told told.old (members_told scoping.now (name_bytes owner.now) None (docs_in members.now))) }
+        ≡ all_told told.old (members_told scoping.now (around_view around.now) None (docs_in members.now))) }
 {
     let mut previous = None;
     for member in members {
-        tell_member(scoping, owner, previous, member, told)?;
+        tell_member(scoping, around, previous, member, told)?;
         previous = member_name(scoping, member);
     }
     Ok(())
 }
 
-/// Tells of the member of the enum of that name, behind the member of that name.
+/// Tells of the member of that enum, behind the member of that name.
 fn tell_member(
     scoping: &Scoping,
-    owner: &Name,
+    around: &EnumAround,
     previous: Option<&Name>,
     member: &Part,
     told: &mut ToldNodes,
 ) -> Result<(), OutOfMemory>
-    ensures { OnOk result (told.new ≡ all_told told.old (member_told scoping.now (name_bytes owner.now)
+    ensures { OnOk result (told.new ≡ all_told told.old (member_told scoping.now (around_view around.now)
         (option_map (λ name. name_bytes name.now) previous.entry) (part_doc member.now))) }
 {
     match member {
-        Part::Node(node) => tell_node(scoping, owner, previous, node, told),
+        Part::Node(node) => tell_node(scoping, around, previous, node, told),
         _ => Ok(()),
     }
 }
@@ -59,18 +70,18 @@ fn tell_member(
 #[tactic(auto, using(crate::proofs::Found::nothing_declared))]
 fn tell_node(
     scoping: &Scoping,
-    owner: &Name,
+    around: &EnumAround,
     previous: Option<&Name>,
     node: &Node,
     told: &mut ToldNodes,
 ) -> Result<(), OutOfMemory>
-    ensures { OnOk result (told.new ≡ all_told told.old (symbol_told scoping.now (name_bytes owner.now)
+    ensures { OnOk result (told.new ≡ all_told told.old (symbol_told scoping.now (around_view around.now)
         (option_map (λ name. name_bytes name.now) previous.entry) node.now.id.0
         (named (codes "initializer") node.now.kind (docs_in node.now.parts.items))
         (declared_symbol scoping.now node.now.id.0))) }
 {
     match scoping.symbol_of(node.id) {
-        Some(symbol) => tell_symbol(scoping, owner, previous, node, symbol, told),
+        Some(symbol) => tell_symbol(scoping, around, previous, node, symbol, told),
         None => Ok(()),
     }
 }
@@ -79,14 +90,14 @@ fn tell_node(
 #[tactic(auto, using(crate::proofs::Found::symbol_found))]
 fn tell_symbol(
     scoping: &Scoping,
-    owner: &Name,
+    around: &EnumAround,
     previous: Option<&Name>,
     node: &Node,
     symbol: SymbolId,
     told: &mut ToldNodes,
 ) -> Result<(), OutOfMemory>
     requires { symbol.0 < length scoping.now.symbols }
-    ensures { OnOk result (told.new ≡ all_told told.old (symbol_told scoping.now (name_bytes owner.now)
+    ensures { OnOk result (told.new ≡ all_told told.old (symbol_told scoping.now (around_view around.now)
         (option_map (λ name. name_bytes name.now) previous.entry) node.now.id.0
         (named (codes "initializer") node.now.kind (docs_in node.now.parts.items))
         (slice_get scoping.now.symbols symbol.0))) }
@@ -96,10 +107,10 @@ fn tell_symbol(
     let initializer = node.field("initializer");
     let is_reversed = is_reversed(constant, initializer);
     let value = value_of(constant, previous, initializer)?;
-    tell_value(node.id, owner, name, value, is_reversed, told)?;
+    tell_value(node.id, around, name, value, is_reversed, told)?;
     tell_bares(
         scoping,
-        owner,
+        around,
         scoping.get_resolved_references(symbol),
         told,
     )
@@ -108,19 +119,20 @@ fn tell_symbol(
 /// Tells of the member with that number.
 fn tell_value(
     node: NodeId,
-    owner: &Name,
+    around: &EnumAround,
     name: &Name,
     value: MemberValue,
     is_reversed: bool,
     told: &mut ToldNodes,
 ) -> Result<(), OutOfMemory>
-    ensures { OnOk result (told.new ≡ insert_entry nat_eq told.old node.0 (member (record { owner = name_bytes owner.now; name = name_bytes name.now; value = value_view value; is_reversed = is_reversed }))) }
+    ensures { OnOk result (told.new ≡ insert_entry nat_eq told.old node.0 (member (record { owner = name_bytes around.now.name.now; block = around.now.block; name = name_bytes name.now; value = value_view value; is_reversed = is_reversed }))) }
 {
-    match names_of(owner, name) {
+    match names_of(around.name, name) {
         Ok(names) => told.tell(
             node,
             Told::Member(ToldMember {
                 owner: names.owner,
+                block: around.block,
                 name: names.name,
                 value,
                 is_reversed,
@@ -201,15 +213,15 @@ fn following_or(previous: Option<&Name>) -> Result<MemberValue, OutOfMemory>
 #[tactic(auto, using(crate::proofs::Loops::bare_steps))]
 fn tell_bares(
     scoping: &Scoping,
-    owner: &Name,
+    around: &EnumAround,
     references: &[ReferenceId],
     told: &mut ToldNodes,
 ) -> Result<(), OutOfMemory>
     ensures { OnOk result (told.new
-        ≡ all_told told.old (bares scoping.now (name_bytes owner.now) references.now)) }
+        ≡ all_told told.old (bares scoping.now (around_view around.now) references.now)) }
 {
     for reference in references {
-        tell_bare(scoping, owner, *reference, told)?;
+        tell_bare(scoping, around, *reference, told)?;
     }
     Ok(())
 }
@@ -218,18 +230,76 @@ fn tell_bares(
 #[tactic(auto, using(crate::proofs::Found::bare_found, crate::proofs::Found::bare_gone))]
 fn tell_bare(
     scoping: &Scoping,
-    owner: &Name,
+    around: &EnumAround,
     reference: ReferenceId,
     told: &mut ToldNodes,
 ) -> Result<(), OutOfMemory>
     ensures { OnOk result (told.new ≡ all_told told.old
-        (bare_at (name_bytes owner.now) (live_at scoping.now.references reference.0))) }
+        (bare_at (around_view around.now) (live_at scoping.now.references reference.0))) }
 {
     if !scoping.has_reference(reference) {
         return Ok(());
     }
-    let owner = owner.share()?;
-    told.tell(scoping.get_reference(reference).node, Told::Bare(owner))
+    let name = around.name.share()?;
+    told.tell(
+        scoping.get_reference(reference).node,
+        Told::Bare(name, around.group),
+    )
+}
+
+/// Tells of the bare names that mean the members of a block of that enum, which emits nothing.
+#[tactic(auto, using(crate::proofs::Loops::ambient_steps))]
+pub fn tell_members_bares(
+    scoping: &Scoping,
+    around: &EnumAround,
+    members: &[Part],
+    told: &mut ToldNodes,
+) -> Result<(), OutOfMemory>
+    ensures { OnOk result (told.new
+        ≡ all_told told.old (members_bares scoping.now (around_view around.now) (docs_in members.now))) }
+{
+    for member in members {
+        tell_member_bares(scoping, around, member, told)?;
+    }
+    Ok(())
+}
+
+/// Tells of the bare names that mean the member.
+fn tell_member_bares(
+    scoping: &Scoping,
+    around: &EnumAround,
+    member: &Part,
+    told: &mut ToldNodes,
+) -> Result<(), OutOfMemory>
+    ensures { OnOk result (told.new
+        ≡ all_told told.old (member_bares scoping.now (around_view around.now) (part_doc member.now))) }
+{
+    match member {
+        Part::Node(node) => tell_node_bares(scoping, around, node.id, told),
+        _ => Ok(()),
+    }
+}
+
+/// Tells of the bare names that mean what the node of that number declares.
+#[tactic(auto, using(crate::proofs::Found::no_bares, crate::proofs::Found::bares_found))]
+fn tell_node_bares(
+    scoping: &Scoping,
+    around: &EnumAround,
+    node: NodeId,
+    told: &mut ToldNodes,
+) -> Result<(), OutOfMemory>
+    ensures { OnOk result (told.new ≡ all_told told.old
+        (symbol_bares scoping.now (around_view around.now) (declared_symbol scoping.now node.0))) }
+{
+    match scoping.symbol_of(node) {
+        Some(symbol) => tell_bares(
+            scoping,
+            around,
+            scoping.get_resolved_references(symbol),
+            told,
+        ),
+        None => Ok(()),
+    }
 }
 
 /// The name of the member.

@@ -1,8 +1,8 @@
 //! What is told of the imports and exports of a source.
-ghost use Rattle.std.specs.Prelude.{◌≡◌, ◌∷◌, [], IfOk, OnOk, codes, if◌then◌else◌};
+ghost use Rattle.std.specs.Prelude.{◌≡◌, ◌∷◌, [], OnOk, if◌then◌else◌};
 ghost use Rattle.oxt_facts.specs.Told.{gone};
 ghost use Rattle.oxt_options.specs.Facts.{is_in};
-ghost use Rattle.oxt_told.specs.Modules.{list_told, specifier_told, specifiers_told, statement_told, statements_told, told_of_modules};
+ghost use Rattle.oxt_told.specs.Modules.{list_told, specifier_told, modules_told, specifiers_told, statement_told, statements_told};
 ghost use Rattle.oxt_told.specs.Source.{all_told};
 ghost use Rattle.oxt_tree.specs.Fields.{elements, named};
 ghost use Rattle.oxt_tree.specs.View.{docs_in, node_doc, part_doc};
@@ -12,34 +12,20 @@ use oxt_modules::removed::{is_listing, loses_all, node_is_removed};
 use oxt_options::plan::Plan;
 use oxt_tree::ids::{NodeId, OutOfMemory};
 use oxt_tree::tree::{Node, Part};
-use std::alloc::Global;
 
-/// What is told of the imports and exports of the program, whose specifiers are kept as the plan says: which of these
-/// statements are removed, which specifiers of the others are not kept, and which imports lose all of them. With
-/// `only_remove_type_imports` these imports stay.
-///
-/// # Errors
-///
-/// Fails only where memory runs out.
-pub fn modules_told(
-    alloc: Global,
-    program: &Node,
+/// Tells of the imports and exports of the program, whose specifiers are kept as the plan says: which of these statements
+/// are removed, which specifiers of the others are not kept, and which imports lose all of them. With `all` these imports
+/// stay.
+pub fn tell_modules(
     plan: &Plan,
-    only_remove_type_imports: bool,
-) -> Result<ToldNodes, OutOfMemory>
-    ensures { IfOk result (λ told. told
-        ≡ told_of_modules (is_in plan.now.kept) only_remove_type_imports (node_doc program.now)) }
+    all: bool,
+    program: &Node,
+    told: &mut ToldNodes,
+) -> Result<(), OutOfMemory>
+    ensures { OnOk result (told.new
+        ≡ all_told told.old (modules_told (is_in plan.now.kept) all (node_doc program.now))) }
 {
-    let mut told = ToldNodes::new(alloc);
-    match tell_statements(
-        plan,
-        only_remove_type_imports,
-        program.list("body"),
-        &mut told,
-    ) {
-        Ok(()) => Ok(told),
-        Err(fault) => Err(fault),
-    }
+    tell_statements(plan, all, program.list("body"), told)
 }
 
 /// Tells of the statements.

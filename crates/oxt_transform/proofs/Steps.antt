@@ -3,39 +3,38 @@ use Rattle.std.proofs.Common.{◌≡◌, ◌≤◌, ◌⊎◌, inl, ℕ, List, [
 use Rattle.std.specs.Prelude.{if◌then◌else◌, not, ◌&&◌, option_map, replicate}
 use Rattle.std.proofs.Math.Path.{fun_ext}
 use Rattle.std.specs.Option.{option_or}
-use Rattle.oxt_faults.specs.Captured.{Capture, captured}
+use Rattle.oxt_faults.specs.Captured.{Capture}
+use Rattle.oxt_check.specs.Captures.{first_capture}
+use Rattle.oxt_check.specs.Misplacements.{first_misplacement}
+use Rattle.oxt_enum_checks.specs.Wide.{wide}
+use Rattle.oxt_enum_checks.specs.declared.wide.WideMember.{WideMember}
 use Rattle.oxt_check.specs.Diagnostics.{diagnostics, wrapper_stays}
-use Rattle.oxt_check.specs.Faults.{IsFaultOf, captured_refusal, facts_of, misplaced_refusal}
+use Rattle.oxt_check.specs.Faults.{IsFaultOf, captured_refusal, facts_of, misplaced_refusal, wide_refusal}
 use Rattle.oxt_tree.specs.declared.diagnostic.OxcDiagnostic.{OxcDiagnostic}
-use Rattle.oxt_hygiene.proofs.Moved.{none_moved, some_moved}
-use Rattle.oxt_hygiene.specs.Keeps.{IsTableOf, first_moved}
-use Rattle.oxt_hygiene.specs.Left.{OwnerList, left_owners}
 use Rattle.oxt_io.specs.Counts.{Rose}
 use Rattle.oxt_io.specs.Passed.{AppendsPrefix, GaveAll}
 use Rattle.oxt_json.specs.Spelling.{no_value, wrong, tree, reading}
 use Rattle.oxt_json_write.specs.Spelled.{data_of, text_of}
-use Rattle.oxt_modules.specs.Kept.{kept}
 use Rattle.oxt_laws.specs.Laws.{TextTellsTrees}
-use Rattle.oxt_faults.specs.Misplaced.{misplaced}
-use Rattle.oxt_faults.specs.declared.misplaced.MisplacedKind.{MisplacedKind}
+use Rattle.oxt_faults.specs.Misplaced.{Misplacement}
 use Rattle.oxt_tree.specs.Syntax.{is_definition_file}
 use Rattle.oxt_options.specs.Options.{TransformData}
-use Rattle.oxt_options.specs.Facts.{Answers, Facts, is_in}
+use Rattle.oxt_options.specs.Facts.{Answers, Facts}
+use Rattle.oxt_told.specs.Source.{Asked, asked_of}
 use Rattle.oxt_resolve.specs.Resolved.{resolved}
-use Rattle.oxt_scopes.specs.Owners.{owners_of}
 use Rattle.oxt_scoping.specs.Scoped.{Scoped}
 use Rattle.oxt_grammar.specs.declared.category.Category.TheVariants as category
 use Rattle.oxt_grammar.specs.declared.holds.Holds.TheVariants as holds
 use Rattle.oxt_check.proofs.Kept.{plain_beside_nothing}
 use Rattle.oxt_check.specs.Targets.{is_listed, targets}
 use Rattle.oxt_transform.proofs.Spans.{exports_stand}
-use Rattle.oxt_transform.specs.Expected.{ExpectedData, expected_by, expected_of, fault_of, keeps}
+use Rattle.oxt_transform.specs.Expected.{ExpectedData, asked_by, expected_by, expected_of, fault_of, keeps, listed_in}
 use Rattle.oxt_transform.specs.Exports.{HasExports, body}
 use Rattle.oxt_transform.specs.Faults.{refusal_in, IsReasonFor}
 use Rattle.oxt_transform.specs.Lowering.{IsTextOfOne, Lowers, Passes, ReturnsPlain}
 use Rattle.oxt_transform.specs.Outcomes.{AnswerCut, CutOff, IfRefused, IsAnswerUncertifiedOrMemory, IsRefusedMemoryOrWriteFault, LowersToLines, NothingStands, OnWriteFault, Reported, is_uncertified, limit, options_in}
 use Rattle.oxt_transform.specs.Plain.{ComesBack, as_javascript, is_left_alone, is_plain_source, leaves_javascript}
-use Rattle.oxt_transform.specs.Refusals.{Accepts, Difference, Hinders, IsHindrance, IsFailure, IsMoved, Judges, Refusal, Refuses, captured_name, is_plain_output, json, misplaced_node, shape, unbuilt_form, uncertified}
+use Rattle.oxt_transform.specs.Refusals.{Accepts, Difference, Hinders, IsHindrance, IsFailure, Judges, Refusal, Refuses, captured_name, is_plain_output, json, misplaced_node, shape, unbuilt_form, uncertified, wide_member}
 use Rattle.oxt_transform.specs.Settings.{SettingsData, differs, has_exports, has_language, is_script, settings_by, wrong_setting}
 use Rattle.oxt_transform.specs.declared.program.Outcome.{Outcome}
 use Rattle.oxt_transform.specs.declared.program.Outcome.TheVariants.{Done, Diagnosed, Refused, Usage, ReadFault, WriteFault, Memory, TooLong}
@@ -69,6 +68,7 @@ only_uncertified json o bytes h k = absurd (nothing_read bytes k.source k.next k
 only_uncertified (shape place) o bytes h k = absurd (wrongly_read bytes place k.source k.next k.spelled h)
 only_uncertified (unbuilt_form kind) o bytes h k = absurd (faults_differ (unbuilt_form kind) bytes h.source h.next h.spelled h.cause k)
 only_uncertified (misplaced_node m place) o bytes h k = absurd (faults_differ (misplaced_node m place) bytes h.source h.next h.spelled h.cause k)
+only_uncertified (wide_member span) o bytes h k = absurd (faults_differ (wide_member span) bytes h.source h.next h.spelled h.cause k)
 only_uncertified (captured_name name place) o bytes h k = absurd (faults_differ (captured_name name place) bytes h.source h.next h.spelled h.cause k)
 only_uncertified (uncertified d) o bytes h k = refl
 
@@ -131,57 +131,41 @@ answer_cut TooLong words options bytes some_told lines text left left' taken tak
 
 -- ---- what the test of an output says of its source
 
--- the plan's lists are the source's, as far as one asks
-kept_same : (known listed : Facts) → Answers known listed → is_in known.kept ≡ is_in listed.kept
-kept_same known listed a = fun_ext a.kept
+-- the plan says of each node what the source's lists say
+asked_same : (known listed : Facts) → Answers known listed → asked_of known ≡ listed_in listed
+asked_same known listed a =
+    let kept = fun_ext a.kept in
+    let first = fun_ext a.first in
+    let dropped = fun_ext a.dropped in
+    let inlined = fun_ext a.inlined in
+    cc
 
 -- what is expected of the output, by the tables that the program made
-pub expected_same : (o : TransformData) (source : Doc) (x : ExpectedData) (known : Facts) (s : Scoped) → s ≡ resolved source → Answers known (facts_of s source o) → x ≡ expected_by (is_in known.kept) o.typescript.only_remove_type_imports source → x ≡ expected_of o source
+pub expected_same : (o : TransformData) (source : Doc) (x : ExpectedData) (known : Facts) (s : Scoped) → s ≡ resolved source → Answers known (facts_of s source o) → x ≡ expected_by s (asked_of known) o.typescript.only_remove_type_imports source → x ≡ expected_of o source
 expected_same o source x known s table a made =
     made
-    ∙ (ap (λ k. expected_by k o.typescript.only_remove_type_imports source) (kept_same known (facts_of s source o) a)
-    ∙ ap (λ t. expected_by (is_in (kept t source o.typescript)) o.typescript.only_remove_type_imports source) table)
+    ∙ (ap (λ (p : Asked). expected_by s p o.typescript.only_remove_type_imports source) (asked_same known (facts_of s source o) a)
+    ∙ ap (λ t. expected_by t (asked_by t o source) o.typescript.only_remove_type_imports source) table)
 
-module _ (o : TransformData) (source output : Doc) (x : ExpectedData) (s : Scoped) (es : OwnerList)
+module _ (o : TransformData) (source output : Doc) (x : ExpectedData)
     (faultless : fault_of source ≡ None)
-    (is_expected : x ≡ expected_of o source)
-    (table : s ≡ resolved source)
-    (owners : IsTableOf es (left_owners o.typescript.only_remove_type_imports s (owners_of source))) where
-  of_source_table : IsTableOf es (left_owners o.typescript.only_remove_type_imports (resolved source) (owners_of source))
-  of_source_table = subst (λ t. IsTableOf es (left_owners o.typescript.only_remove_type_imports t (owners_of source))) table owners
+    (is_expected : x ≡ expected_of o source) where
+  judged_source : (d : Option Difference) → Judges x output d → Judges (expected_of o source) output d
+  judged_source d judged = subst (λ y. Judges y output d) is_expected judged
 
-  moved_kept : (moved : Option ℕ) → first_moved es (owners_of output) ≡ moved → IsMoved o source output moved
-  moved_kept None h = none_moved es (left_owners o.typescript.only_remove_type_imports (resolved source) (owners_of source)) (owners_of output) of_source_table h
-  moved_kept (Some i) h = some_moved es (left_owners o.typescript.only_remove_type_imports (resolved source) (owners_of source)) (owners_of output) i of_source_table h
+  pub passed : Judges x output None → Passes o source output
+  passed judged = record { faultless = faultless; judged = judged_source None judged }
 
-  judged_source : (d : Option Difference) → Judges x (first_moved es (owners_of output)) output d → Judges (expected_of o source) (first_moved es (owners_of output)) output d
-  judged_source d judged = subst (λ y. Judges y (first_moved es (owners_of output)) output d) is_expected judged
+  failed_so : (d : Difference) → Judges x output (Some d) → Hinders (uncertified d) o source
+  failed_so d judged = record { output = output; faultless = faultless; judged = judged_source (Some d) judged }
 
-  pub passed : Judges x (first_moved es (owners_of output)) output None → Passes o source output
-  passed judged =
-      let whole = judged_source None judged in
-      record {
-        faultless = faultless;
-        judged = (whole.0, whole.1, whole.2, whole.3, refl);
-        owners = moved_kept None whole.4;
-      }
-
-  failed_so : (d : Difference) → Judges x (first_moved es (owners_of output)) output (Some d) → Hinders (uncertified d) o source
-  failed_so d judged =
-      record {
-        output = output;
-        moved = first_moved es (owners_of output);
-        faultless = faultless;
-        owners = moved_kept (first_moved es (owners_of output)) refl;
-        judged = judged_source (Some d) judged;
-      }
-
-  pub failed : (came : Option Refusal) → IsFailure came x (first_moved es (owners_of output)) output → IsHindrance came o source
+  pub failed : (came : Option Refusal) → IsFailure came x output → IsHindrance came o source
   failed None judged = tt
   failed (Some json) judged = absurd judged
   failed (Some (shape place)) judged = absurd judged
   failed (Some (unbuilt_form kind)) judged = absurd judged
   failed (Some (misplaced_node m place)) judged = absurd judged
+  failed (Some (wide_member span)) judged = absurd judged
   failed (Some (captured_name name place)) judged = absurd judged
   failed (Some (uncertified d)) judged = failed_so d judged
 
@@ -195,6 +179,7 @@ is_of_source json = false
 is_of_source (shape place) = false
 is_of_source (unbuilt_form kind) = true
 is_of_source (misplaced_node m place) = true
+is_of_source (wide_member span) = true
 is_of_source (captured_name name place) = true
 is_of_source (uncertified d) = false
 
@@ -202,15 +187,17 @@ abbrev fits_source : Option Refusal → Bool
 fits_source None = true
 fits_source (Some r) = is_of_source r
 
-fits : (u : Option (List ℕ)) (b : Bool) (m : Option (MisplacedKind × ℕ)) (c : Option Capture) (d : Doc) → fits_source (option_or (option_map unbuilt_form u) (if b then None else option_or (option_map (misplaced_refusal d) m) (option_map (captured_refusal d) c))) ≡ true
-fits (Some kind) b m c d = refl
-fits None true m c d = refl
-fits None false (Some x) c d = refl
-fits None false None (Some x) d = refl
-fits None false None None d = refl
+fits : (u : Option (List ℕ)) (b : Bool) (m : Option Misplacement) (w : Option WideMember) (c : Option Capture) (d : Doc)
+    → fits_source (option_or (option_map unbuilt_form u) (if b then None else option_or (option_map (misplaced_refusal d) m) (option_or (option_map wide_refusal w) (option_map (captured_refusal d) c)))) ≡ true
+fits (Some kind) b m w c d = refl
+fits None true m w c d = refl
+fits None false (Some x) w c d = refl
+fits None false None (Some x) c d = refl
+fits None false None None (Some x) d = refl
+fits None false None None None d = refl
 
 source_fits : (source : Doc) (r : Refusal) → fault_of source ≡ Some r → is_of_source r ≡ true
-source_fits source r h = sym (ap fits_source h) ∙ fits (unbuilt source) (is_definition_file source) (misplaced source) (captured (resolved source) source) source
+source_fits source r h = sym (ap fits_source h) ∙ fits (unbuilt source) (is_definition_file source) (first_misplacement (resolved source) source) (wide (resolved source) source) (first_capture (resolved source) source) source
 
 -- a fault of the source
 pub fault_hinders : (came : Option Refusal) (o : TransformData) (source : Doc) → IsFaultOf came (resolved source) source → IsHindrance came o source
@@ -221,6 +208,7 @@ fault_hinders came o source h = hinders came h
     named (shape place) h = absurd (false_true (source_fits source (shape place) h))
     named (unbuilt_form kind) h = h
     named (misplaced_node m place) h = h
+    named (wide_member span) h = h
     named (captured_name name place) h = h
     named (uncertified d) h = absurd (false_true (source_fits source (uncertified d) h))
 
@@ -267,15 +255,14 @@ module _ (options : TransformData) (bytes : List ℕ) (source : Doc) (next : ℕ
         output = output;
         spelled = read;
         all_told = all_told;
-        valid = p.judged.0;
-        plain_beside = p.judged.1;
-        plain = λ none. plain_then source output p.judged.1 (sym all_told ∙ none);
-        settings = p.judged.2;
-        exports = exports_stand (keeps options source) options.typescript.only_remove_type_imports source output (right_exports (expected_of options source).settings output p.judged.2);
-        same_word = sym p.judged.3;
-        same_owners = p.owners;
+        valid = p.judged.0.0;
+        plain_beside = p.judged.0.1;
+        plain = λ none. plain_then source output p.judged.0.1 (sym all_told ∙ none);
+        settings = p.judged.0.2;
+        exports = exports_stand (keeps options source) options.typescript.only_remove_type_imports source output (right_exports (expected_of options source).settings output p.judged.0.2);
+        same_word = sym p.judged.1;
         written = written;
-        only = only p.judged.0;
+        only = only p.judged.0.0;
       }
 
   pub passes_accepts : (output : Doc) → Passes options source output → Accepts bytes
@@ -286,6 +273,7 @@ module _ (options : TransformData) (bytes : List ℕ) (source : Doc) (next : ℕ
   hindered (shape place) h = absurd h
   hindered (unbuilt_form kind) h = record { source = source; next = next; spelled = read; cause = h }
   hindered (misplaced_node m place) h = record { source = source; next = next; spelled = read; cause = h }
+  hindered (wide_member span) h = record { source = source; next = next; spelled = read; cause = h }
   hindered (captured_name name place) h = record { source = source; next = next; spelled = read; cause = h }
   hindered (uncertified d) h = record { source = source; next = next; spelled = read; cause = h }
 

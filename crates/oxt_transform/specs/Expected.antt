@@ -1,14 +1,16 @@
 -- What is known of a source, with which its output is compared.
 use Rattle.std.specs.Prelude.{◌≡◌, ℕ, List, [], Bool, Option}
-use Rattle.oxt_check.specs.Faults.{first_fault}
+use Rattle.oxt_check.specs.Faults.{facts_of, first_fault}
 use Rattle.oxt_check.specs.Refusals.{Refusal}
-use Rattle.oxt_facts.specs.Facts.{of_told_source}
+use Rattle.oxt_facts.specs.Facts.{of_output, of_told_source}
 use Rattle.oxt_facts.specs.Entry.{Entry, entries}
-use Rattle.oxt_modules.specs.Kept.{kept}
-use Rattle.oxt_told.specs.Modules.{told_of_modules}
+use Rattle.oxt_told.specs.Groups.{groups_of}
+use Rattle.oxt_told.specs.Source.{Asked}
+use Rattle.oxt_told.specs.Whole.{told_of_source}
 use Rattle.oxt_options.specs.Options.{TransformData}
-use Rattle.oxt_options.specs.Facts.{is_in}
+use Rattle.oxt_options.specs.Facts.{Facts, is_in, last_constant}
 use Rattle.oxt_resolve.specs.Resolved.{resolved}
+use Rattle.oxt_scoping.specs.Scoped.{Scoped}
 use Rattle.oxt_check.specs.Targets.{targets}
 use Rattle.oxt_transform.specs.Settings.{SettingsData, settings_by, settings_view}
 use Rattle.oxt_transform.specs.declared.expected.Expected.{Expected}
@@ -25,14 +27,34 @@ fault_of source = first_fault (resolved source) source
 abbrev pub names_of : Doc → List (List ℕ)
 names_of source = all_added (names source) []
 
+-- what lists of nodes say of each of them; of several constants of one expression the last counts
+abbrev pub listed_in : Facts → Asked
+listed_in l =
+    record { kept = is_in l.kept; first = is_in l.first; dropped = is_in l.dropped; inlined = last_constant l.inlined }
+
+-- what is asked of the nodes of a source, of which that is the table of scopes and symbols, under the options
+abbrev pub asked_by : Scoped → TransformData → Doc → Asked
+asked_by s o source = listed_in (facts_of s source o)
+
+abbrev pub asked : TransformData → Doc → Asked
+asked o source = asked_by (resolved source) o source
+
 -- the specifier of that number is kept under the options
 abbrev pub keeps : TransformData → Doc → ℕ → Bool
-keeps o source = is_in (kept (resolved source) source o.typescript)
+keeps o source = (asked o source).kept
 
--- the effect word of a source of which these specifiers are kept; the flag says whether only imports that say so
--- themselves are imports of types
-abbrev pub source_word : (ℕ → Bool) → Bool → Doc → List Entry
-source_word ks all source = word (of_told_source (told_of_modules ks all source)) source
+-- The effect word of a source, of whose nodes that is asked and of which that is the table: each name with its group. The
+-- flag says whether only imports that say so themselves are imports of types.
+abbrev pub source_word_by : Scoped → Asked → Bool → Doc → List Entry
+source_word_by s p all source = word (of_told_source (told_of_source s p all source) (groups_of s source)) source
+
+-- the effect word of a source under the options
+abbrev pub source_word : TransformData → Doc → List Entry
+source_word o source = source_word_by (resolved source) (asked o source) o.typescript.only_remove_type_imports source
+
+-- the effect word of what was made of a source that has these names, with the groups of its own names
+abbrev pub output_word : List (List ℕ) → Doc → List Entry
+output_word names output = word (of_output names (groups_of (resolved output) output) output) output
 
 -- the effect word of the output, the names of the source, the settings of the output, and the numbers of the wrappers
 -- that may stay
@@ -46,21 +68,21 @@ abbrev pub expected_view : Expected → ExpectedData
 expected_view x =
     record {
       word = entries x.word.items;
-      names = x.names.taken;
+      names = x.names;
       settings = settings_view x.settings;
       staying = x.targets;
     }
 
--- What is expected of the output of a source of which these specifiers are kept.
-abbrev pub expected_by : (ℕ → Bool) → Bool → Doc → ExpectedData
-expected_by ks all source =
+-- What is expected of the output of a source of whose nodes that is asked and of which that is the table.
+abbrev pub expected_by : Scoped → Asked → Bool → Doc → ExpectedData
+expected_by s p all source =
     record {
-      word = source_word ks all source;
+      word = source_word_by s p all source;
       names = names_of source;
-      settings = settings_by ks all source;
+      settings = settings_by p.kept all source;
       staying = targets source;
     }
 
 -- the same under options
 abbrev pub expected_of : TransformData → Doc → ExpectedData
-expected_of o source = expected_by (keeps o source) o.typescript.only_remove_type_imports source
+expected_of o source = expected_by (resolved source) (asked o source) o.typescript.only_remove_type_imports source

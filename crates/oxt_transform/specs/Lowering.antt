@@ -2,27 +2,22 @@
 use Rattle.std.specs.Prelude.{◌≡◌, ℕ, List, [], true, None}
 use Rattle.oxt_check.specs.Diagnostics.{diagnostics}
 use Rattle.oxt_tree.specs.declared.diagnostic.OxcDiagnostic.{OxcDiagnostic}
-use Rattle.oxt_facts.specs.Facts.{of_output, of_told_source}
-use Rattle.oxt_hygiene.specs.Keeps.{KeepsOwners}
 use Rattle.oxt_json.specs.Spelling.{reading, tree}
 use Rattle.oxt_json_write.specs.Spelled.{data_of, text_of}
-use Rattle.oxt_told.specs.Modules.{told_of_modules}
 use Rattle.oxt_laws.specs.Numbers.{unnumbered}
 use Rattle.oxt_options.specs.Options.{TransformData}
-use Rattle.oxt_resolve.specs.Resolved.{resolved}
 use Rattle.oxt_grammar.specs.declared.category.Category.TheVariants as category
 use Rattle.oxt_grammar.specs.declared.holds.Holds.TheVariants as holds
 use Rattle.oxt_check.specs.Beside.{is_plain_beside}
 use Rattle.oxt_check.specs.Targets.{is_listed, targets}
 use Rattle.oxt_tree.specs.Doc.{Doc}
-use Rattle.oxt_transform.specs.Expected.{expected_of, fault_of, keeps, names_of}
+use Rattle.oxt_transform.specs.Expected.{expected_of, fault_of, keeps, names_of, output_word, source_word}
 use Rattle.oxt_transform.specs.Exports.{HasExports}
 use Rattle.oxt_transform.specs.Plain.{as_javascript, is_plain_source, leaves_javascript}
 use Rattle.oxt_transform.specs.Refusals.{Judges}
 use Rattle.oxt_transform.specs.Settings.{settings_by, wrong_setting}
 use Rattle.oxt_valid.specs.Plain.{is_plain}
 use Rattle.oxt_valid.specs.Valid.{is_tree}
-use Rattle.oxt_word.specs.Word.{word}
 use Rattle.serde_json.specs.Written.{IsInOrder}
 
 -- no other tree of the grammar is written so: one that is differs in the numbers of its nodes alone
@@ -32,8 +27,8 @@ IsTextOfOne text output =
 
 -- The bytes spell a source tree, and the text is that of an output and of no other tree. The output is a tree of the
 -- grammar with the source's settings, plain but for the wrappers around targets of which the diagnostics tell; where
--- there are none, it is plain. It has the effect word that the source has under the options, its `export {}` statements
--- are the source's and the one that is due, and each name that is used has the owner that it had.
+-- there are none, it is plain. It has the effect word that the source has under the options, in which each name that is
+-- used or bound has the owner that it had, and its `export {}` statements are the source's and the one that is due.
 pub record Lowers (options : TransformData) (bytes : List ℕ) (told : List OxcDiagnostic) (text : List ℕ) : Type 0 where
   pub source : Doc
   pub next : ℕ
@@ -45,9 +40,7 @@ pub record Lowers (options : TransformData) (bytes : List ℕ) (told : List OxcD
   pub plain : told ≡ [] → is_plain output ≡ true
   pub settings : wrong_setting (settings_by (keeps options source) options.typescript.only_remove_type_imports source) output ≡ None
   pub exports : HasExports (keeps options source) options.typescript.only_remove_type_imports source output
-  pub same_word : word (of_output (names_of source) output) output
-      ≡ word (of_told_source (told_of_modules (keeps options source) options.typescript.only_remove_type_imports source)) source
-  pub same_owners : KeepsOwners options.typescript.only_remove_type_imports (resolved source) source output
+  pub same_word : output_word (names_of source) output ≡ source_word options source
   pub written : text ≡ text_of output
   pub only : IsTextOfOne text output
 
@@ -60,5 +53,4 @@ ReturnsPlain o bytes text =
 -- The source has no fault, and the output passes its test.
 pub record Passes (options : TransformData) (source output : Doc) : Type 0 where
   pub faultless : fault_of source ≡ None
-  pub judged : Judges (expected_of options source) None output None
-  pub owners : KeepsOwners options.typescript.only_remove_type_imports (resolved source) source output
+  pub judged : Judges (expected_of options source) output None

@@ -74,7 +74,7 @@ fn walk(
     let Tables { scoping, plan } = tables;
     let state = TransformState::new(options, false);
     let mut ctx = TraverseCtx::new(alloc, scoping, plan, state, program.ids);
-    let walked = lower_program(&mut program.root, &mut ctx);
+    let walked = lower_program(&mut program.root, &options.typescript, &mut ctx);
     program.ids = ctx.ids;
     leave(ctx);
     walked
@@ -82,3 +82,6 @@ fn walk(
 
 /// Drops the context of a walk.
 fn leave(_ctx: TraverseCtx) {}
+
+/// Drops the table of a program.
+pub(crate) fn drop_table(_scoping: Scoping) {}

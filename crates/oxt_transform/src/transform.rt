@@ -1,7 +1,7 @@
 //! The work on one tree.
 ghost use Rattle.std.specs.Prelude.{◌≡◌, IfOk, IfErr, None, OnOk, true};
 ghost use Rattle.oxt_check.specs.Diagnostics.{diagnostics};
-ghost use Rattle.oxt_check.specs.Faults.{IsFaultOf, facts_of};
+ghost use Rattle.oxt_check.specs.Faults.{IsFaultOf, facts_of, first_fault};
 ghost use Rattle.oxt_json.specs.Spelling.{reading, tree};
 ghost use Rattle.oxt_json_write.specs.Spelled.{text_of};
 ghost use Rattle.oxt_options.specs.Options.{transform_view};
@@ -19,7 +19,7 @@ ghost use Rattle.oxt_valid.specs.Valid.{is_tree};
 use crate::certificate::certify;
 use crate::expected::Expected;
 use crate::fault::{Fault, fault_of_reading};
-use crate::passes::{Tables, rewrite};
+use crate::passes::{Tables, drop_table, rewrite};
 use oxt_check::check;
 use oxt_check::diagnose::diagnostics_of;
 use oxt_json::read_tree;
@@ -27,6 +27,7 @@ use oxt_json_write::write_tree;
 use oxt_laws::text_tells_trees;
 pub use oxt_options::TransformOptions;
 use oxt_resolve::resolve::resolve;
+use oxt_scoping::scoping::Scoping;
 use oxt_tree::diagnostic::OxcDiagnostic;
 use oxt_tree::ids::OutOfMemory;
 use oxt_tree::lines::append_lines;
@@ -78,8 +79,8 @@ impl TransformerReturn {
 ///
 /// A wrapper around a target that may not be assigned to stays, and a diagnostic tells of it.
 ///
-/// Of the options act `only_remove_type_imports`, `jsx_pragma` and `jsx_pragma_frag` so far; the others say only which
-/// programs are left alone.
+/// Of the options act `only_remove_type_imports`, `optimize_const_enums`, `optimize_enums`, `jsx_pragma` and
+/// `jsx_pragma_frag` so far; the others say only which programs are left alone.
 ///
 /// # Errors
 ///
@@ -168,10 +169,35 @@ fn resolve_and_check(
     ensures accepted { OnOk result (fault_of (node_doc program.now.root) ≡ None) }
     ensures refused { IfErr result (λ f. IsFaultOf (refusal_in f) (resolved (node_doc program.now.root)) (node_doc program.now.root)) }
 {
-    let scoping = resolve(alloc, &program.root)?;
+    match resolve(alloc, &program.root) {
+        Ok(scoping) => check_resolved(alloc, program, scoping, options),
+        Err(_) => Err(Fault::OutOfMemory),
+    }
+}
+
+/// Checks the program, whose table of scopes and symbols that is.
+///
+/// # Errors
+///
+/// The first fault of the program; nothing else but want of memory.
+fn check_resolved(
+    alloc: Global,
+    program: &Program,
+    scoping: Scoping,
+    options: &TransformOptions,
+) -> Result<Tables, Fault>
+    ensures table { IfOk result (λ t. t.scoping ≡ scoping) }
+    ensures plan { IfOk result (λ t. Answers t.plan
+        (facts_of t.scoping (node_doc program.now.root) (transform_view options.now))) }
+    ensures accepted { OnOk result (first_fault scoping (node_doc program.now.root) ≡ None) }
+    ensures refused { IfErr result (λ f. IsFaultOf (refusal_in f) scoping (node_doc program.now.root)) }
+{
     match check(alloc, program, &scoping, options) {
         Ok(plan) => Ok(Tables { scoping, plan }),
-        Err(fault) => Err(fault),
+        Err(fault) => {
+            drop_table(scoping);
+            Err(fault)
+        }
     }
 }
 

@@ -4,6 +4,8 @@ ghost use Rattle.oxt_traverse.specs.Level.{IsLevel};
 
 use oxt_ctx::context::TraverseCtx;
 use oxt_erase::pass::TypeScriptAnnotations;
+use oxt_lower::pass::TypeScriptEnum;
+use oxt_options::TypeScriptOptions;
 use oxt_traverse::dispatch::{run_at_node, run_at_statements};
 use oxt_traverse::hook::Hook;
 use oxt_traverse::traverse::Traverse;
@@ -11,7 +13,7 @@ use oxt_tree::ids::OutOfMemory;
 use oxt_tree::tree::{Node, Part};
 use oxt_walk::walk::walk_program;
 
-/// Lowers the program by the TypeScript passes, in one walk.
+/// Lowers the program by the TypeScript passes under the options, in one walk.
 ///
 /// `program` is a node of kind `Program`.
 ///
@@ -19,23 +21,29 @@ use oxt_walk::walk::walk_program;
 ///
 /// `OutOfMemory` for want of memory or of numbers alone. The tree and the context may then only be
 /// dropped.
-pub fn lower_program(program: &mut Node, ctx: &mut TraverseCtx) -> Result<(), OutOfMemory>
+pub fn lower_program(
+    program: &mut Node,
+    options: &TypeScriptOptions,
+    ctx: &mut TraverseCtx,
+) -> Result<(), OutOfMemory>
     ensures level { OnOk result (IsLevel ctx.old ctx.new) }
 {
-    walk_program(&mut TypeScript::new(), program, ctx)
+    walk_program(&mut TypeScript::new(options), program, ctx)
 }
 
-/// The TypeScript passes: at each hook those of the passes that have it, in their order. So far
-/// there is one, which erases types.
+/// The TypeScript passes: at each hook those of the passes that have it, the one that lowers enums before the one that
+/// erases types.
 #[derive(Clone, Copy, Debug)]
 pub struct TypeScript {
+    enums: TypeScriptEnum,
     annotations: TypeScriptAnnotations,
 }
 
 impl TypeScript {
-    /// The passes.
-    pub fn new() -> TypeScript {
+    /// The passes under these options.
+    pub fn new(options: &TypeScriptOptions) -> TypeScript {
         TypeScript {
+            enums: TypeScriptEnum::new(options.optimize_const_enums, options.optimize_enums),
             annotations: TypeScriptAnnotations::new(),
         }
     }
@@ -48,6 +56,7 @@ impl Traverse for TypeScript {
         node: &mut Node,
         ctx: &mut TraverseCtx,
     ) -> Result<(), OutOfMemory> {
+        run_at_node(&mut self.enums, hook, node, ctx)?;
         run_at_node(&mut self.annotations, hook, node, ctx)
     }
 
@@ -57,6 +66,7 @@ impl Traverse for TypeScript {
         statements: &mut Vec<Part>,
         ctx: &mut TraverseCtx,
     ) -> Result<(), OutOfMemory> {
+        run_at_statements(&mut self.enums, hook, statements, ctx)?;
         run_at_statements(&mut self.annotations, hook, statements, ctx)
     }
 }

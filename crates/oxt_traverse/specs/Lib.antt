@@ -1,3 +1,4 @@
 pub mod Level
+pub mod Ran
 pub mod Reached
 pub mod Visits

@@ -1,7 +1,6 @@
 -- Which hooks run at a document.
-use Rattle.std.specs.Prelude.{◌≡◌, List, [], ◌∷◌, ◌++◌, Bool, true, false, if◌then◌else◌}
+use Rattle.std.specs.Prelude.{◌≡◌, List, [], ◌∷◌, ◌++◌, Bool, false, if◌then◌else◌}
 use Rattle.oxt_grammar.specs.declared.category.Category.{Category}
-use Rattle.oxt_grammar.specs.declared.kind.Kind.{Kind}
 use Rattle.oxt_traverse.specs.Reached.{as_kind, as_left, at_place, from_place, wants}
 use Rattle.oxt_traverse.specs.declared.hook.Hook.{Hook}
 use Rattle.oxt_tree.specs.Doc.{Doc, node}

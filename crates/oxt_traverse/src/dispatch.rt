@@ -1,7 +1,8 @@
 //! Running the hooks that a node reaches.
-ghost use Rattle.std.specs.Prelude.{◌≡◌, ◌++◌, OnOk, true};
+ghost use Rattle.std.specs.Prelude.{◌≡◌, OnOk, true};
 ghost use Rattle.oxt_traverse.specs.Level.{IsLevel, IsOpen, IsOpenAt, IsUntouched};
-ghost use Rattle.oxt_traverse.specs.Visits.{HasLogged, entered, left, visit, visits_by};
+ghost use Rattle.oxt_traverse.specs.Ran.{HasRun};
+ghost use Rattle.oxt_traverse.specs.Visits.{HasLogged, entered, left, visits_by};
 ghost use Rattle.oxt_tree.specs.Doc.{list};
 ghost use Rattle.oxt_tree.specs.View.{docs_in, node_doc};
 
@@ -74,56 +75,128 @@ pub fn run_at_node<T: Traverse>(
     ctx: &mut TraverseCtx,
 ) -> Result<(), OutOfMemory>
     requires open { IsOpenAt hook ctx.old }
-    ensures level { OnOk result (IsLevel ctx.old ctx.new) }
-    ensures untouched { OnOk result (IsUntouched (T.watches ≡ true) (node_doc node.old) (node_doc node.new) ctx.old ctx.new) }
-    ensures logged { OnOk result (T.log pass.new ≡ T.log pass.old ++ T.trace (visit hook (node_doc node.old))) }
+    ensures { OnOk result (HasRun (T.watches ≡ true) T.trace hook (node_doc node.old) (node_doc node.new) ctx.old ctx.new (T.log pass.old) (T.log pass.new)) }
 {
     match hook {
         Hook::EnterProgram => pass.enter_program(node, ctx),
         Hook::ExitProgram => pass.exit_program(node, ctx),
-        Hook::EnterStatements => pass.at_node(hook, node, ctx),
-        Hook::ExitStatements => pass.at_node(hook, node, ctx),
         Hook::EnterStatement => pass.enter_statement(node, ctx),
         Hook::ExitStatement => pass.exit_statement(node, ctx),
+        Hook::EnterDeclaration => pass.enter_declaration(node, ctx),
+        Hook::EnterExpression => pass.enter_expression(node, ctx),
+        Hook::EnterChainElement => pass.enter_chain_element(node, ctx),
+        Hook::EnterSimpleAssignmentTarget => pass.enter_simple_assignment_target(node, ctx),
+        Hook::EnterAssignmentTarget => pass.enter_assignment_target(node, ctx),
+        _ => run_in_class(pass, hook, node, ctx),
+    }
+}
+
+/// Runs the hook at a node, where it is no hook of a place: one of classes and what is in them, or another.
+fn run_in_class<T: Traverse>(
+    pass: &mut T,
+    hook: Hook,
+    node: &mut Node,
+    ctx: &mut TraverseCtx,
+) -> Result<(), OutOfMemory>
+    requires open { IsOpenAt hook ctx.old }
+    ensures { OnOk result (HasRun (T.watches ≡ true) T.trace hook (node_doc node.old) (node_doc node.new) ctx.old ctx.new (T.log pass.old) (T.log pass.new)) }
+{
+    match hook {
         Hook::EnterClass => pass.enter_class(node, ctx),
         Hook::ExitClass => pass.exit_class(node, ctx),
+        Hook::ExitClassAtEnd => pass.exit_class_at_end(node, ctx),
         Hook::EnterMethodDefinition => pass.enter_method_definition(node, ctx),
         Hook::ExitMethodDefinition => pass.exit_method_definition(node, ctx),
         Hook::EnterAccessorProperty => pass.enter_accessor_property(node, ctx),
         Hook::ExitAccessorProperty => pass.exit_accessor_property(node, ctx),
         Hook::EnterPropertyDefinition => pass.enter_property_definition(node, ctx),
         Hook::ExitPropertyDefinition => pass.exit_property_definition(node, ctx),
+        Hook::EnterDecorator => pass.enter_decorator(node, ctx),
+        _ => run_in_function(pass, hook, node, ctx),
+    }
+}
+
+/// Runs the hook at a node, where it is none of those above: one of functions and parameters, or another.
+fn run_in_function<T: Traverse>(
+    pass: &mut T,
+    hook: Hook,
+    node: &mut Node,
+    ctx: &mut TraverseCtx,
+) -> Result<(), OutOfMemory>
+    requires open { IsOpenAt hook ctx.old }
+    ensures { OnOk result (HasRun (T.watches ≡ true) T.trace hook (node_doc node.old) (node_doc node.new) ctx.old ctx.new (T.log pass.old) (T.log pass.new)) }
+{
+    match hook {
         Hook::EnterFunction => pass.enter_function(node, ctx),
         Hook::ExitFunction => pass.exit_function(node, ctx),
-        Hook::ExitClassAtEnd => pass.exit_class_at_end(node, ctx),
-        Hook::EnterDeclaration => pass.enter_declaration(node, ctx),
-        Hook::EnterExpression => pass.enter_expression(node, ctx),
-        Hook::EnterDecorator => pass.enter_decorator(node, ctx),
         Hook::EnterArrowFunctionExpression => pass.enter_arrow_function_expression(node, ctx),
-        Hook::EnterVariableDeclaration => pass.enter_variable_declaration(node, ctx),
-        Hook::EnterVariableDeclarator => pass.enter_variable_declarator(node, ctx),
-        Hook::EnterCallExpression => pass.enter_call_expression(node, ctx),
-        Hook::EnterNewExpression => pass.enter_new_expression(node, ctx),
-        Hook::EnterTaggedTemplateExpression => pass.enter_tagged_template_expression(node, ctx),
-        Hook::EnterImportExpression => pass.enter_import_expression(node, ctx),
-        Hook::EnterChainElement => pass.enter_chain_element(node, ctx),
-        Hook::EnterSimpleAssignmentTarget => pass.enter_simple_assignment_target(node, ctx),
-        Hook::EnterAssignmentTarget => pass.enter_assignment_target(node, ctx),
         Hook::EnterFormalParameter => pass.enter_formal_parameter(node, ctx),
         Hook::EnterFormalParameterRest => pass.enter_formal_parameter_rest(node, ctx),
         Hook::EnterCatchParameter => pass.enter_catch_parameter(node, ctx),
-        Hook::EnterJsxOpeningElement => pass.enter_jsx_opening_element(node, ctx),
-        Hook::EnterJsxElement => pass.enter_jsx_element(node, ctx),
-        Hook::EnterJsxFragment => pass.enter_jsx_fragment(node, ctx),
+        _ => run_at_declaration(pass, hook, node, ctx),
+    }
+}
+
+/// Runs the hook at a node, where it is none of those above: one of single declarations, or another.
+fn run_at_declaration<T: Traverse>(
+    pass: &mut T,
+    hook: Hook,
+    node: &mut Node,
+    ctx: &mut TraverseCtx,
+) -> Result<(), OutOfMemory>
+    requires open { IsOpenAt hook ctx.old }
+    ensures { OnOk result (HasRun (T.watches ≡ true) T.trace hook (node_doc node.old) (node_doc node.new) ctx.old ctx.new (T.log pass.old) (T.log pass.new)) }
+{
+    match hook {
+        Hook::EnterVariableDeclaration => pass.enter_variable_declaration(node, ctx),
+        Hook::EnterVariableDeclarator => pass.enter_variable_declarator(node, ctx),
+        Hook::EnterImportDeclaration => pass.enter_import_declaration(node, ctx),
+        Hook::EnterExportAllDeclaration => pass.enter_export_all_declaration(node, ctx),
+        Hook::EnterExportFromDeclaration => pass.enter_export_from_declaration(node, ctx),
+        _ => run_at_statement(pass, hook, node, ctx),
+    }
+}
+
+/// Runs the hook at a node, where it is none of those above: one of single statements, or another.
+fn run_at_statement<T: Traverse>(
+    pass: &mut T,
+    hook: Hook,
+    node: &mut Node,
+    ctx: &mut TraverseCtx,
+) -> Result<(), OutOfMemory>
+    requires open { IsOpenAt hook ctx.old }
+    ensures { OnOk result (HasRun (T.watches ≡ true) T.trace hook (node_doc node.old) (node_doc node.new) ctx.old ctx.new (T.log pass.old) (T.log pass.new)) }
+{
+    match hook {
         Hook::EnterIfStatement => pass.enter_if_statement(node, ctx),
         Hook::EnterWhileStatement => pass.enter_while_statement(node, ctx),
         Hook::EnterDoWhileStatement => pass.enter_do_while_statement(node, ctx),
         Hook::EnterForStatement => pass.enter_for_statement(node, ctx),
         Hook::EnterForInStatement => pass.enter_for_in_statement(node, ctx),
         Hook::EnterForOfStatement => pass.enter_for_of_statement(node, ctx),
-        Hook::EnterImportDeclaration => pass.enter_import_declaration(node, ctx),
-        Hook::EnterExportAllDeclaration => pass.enter_export_all_declaration(node, ctx),
-        Hook::EnterExportFromDeclaration => pass.enter_export_from_declaration(node, ctx),
+        _ => run_at_expression(pass, hook, node, ctx),
+    }
+}
+
+/// Runs the hook at a node, where it is none of those above: one of single expressions, or another.
+fn run_at_expression<T: Traverse>(
+    pass: &mut T,
+    hook: Hook,
+    node: &mut Node,
+    ctx: &mut TraverseCtx,
+) -> Result<(), OutOfMemory>
+    requires open { IsOpenAt hook ctx.old }
+    ensures { OnOk result (HasRun (T.watches ≡ true) T.trace hook (node_doc node.old) (node_doc node.new) ctx.old ctx.new (T.log pass.old) (T.log pass.new)) }
+{
+    match hook {
+        Hook::EnterCallExpression => pass.enter_call_expression(node, ctx),
+        Hook::EnterNewExpression => pass.enter_new_expression(node, ctx),
+        Hook::EnterTaggedTemplateExpression => pass.enter_tagged_template_expression(node, ctx),
+        Hook::EnterImportExpression => pass.enter_import_expression(node, ctx),
+        Hook::EnterJsxOpeningElement => pass.enter_jsx_opening_element(node, ctx),
+        Hook::EnterJsxElement => pass.enter_jsx_element(node, ctx),
+        Hook::EnterJsxFragment => pass.enter_jsx_fragment(node, ctx),
+        _ => pass.at_node(hook, node, ctx),
     }
 }
 
@@ -135,9 +208,7 @@ pub fn run_at_statements<T: Traverse>(
     ctx: &mut TraverseCtx,
 ) -> Result<(), OutOfMemory>
     requires open { IsOpen ctx.old }
-    ensures level { OnOk result (IsLevel ctx.old ctx.new) }
-    ensures untouched { OnOk result (IsUntouched (T.watches ≡ true) (list (docs_in statements.old.items)) (list (docs_in statements.new.items)) ctx.old ctx.new) }
-    ensures logged { OnOk result (T.log pass.new ≡ T.log pass.old ++ T.trace (visit hook (list (docs_in statements.old.items)))) }
+    ensures { OnOk result (HasRun (T.watches ≡ true) T.trace hook (list (docs_in statements.old.items)) (list (docs_in statements.new.items)) ctx.old ctx.new (T.log pass.old) (T.log pass.new)) }
 {
     match hook {
         Hook::EnterStatements => pass.enter_statements(statements, ctx),

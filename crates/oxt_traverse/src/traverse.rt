@@ -1,7 +1,8 @@
 //! What a pass does at the nodes of a tree.
-ghost use Rattle.std.specs.Prelude.{◌≡◌, ◌++◌, Bool, List, [], OnOk, false, true};
-ghost use Rattle.oxt_traverse.specs.Level.{IsLevel, IsOpen, IsOpenAt, IsUntouched};
-ghost use Rattle.oxt_traverse.specs.Visits.{Visit, visit};
+ghost use Rattle.std.specs.Prelude.{◌≡◌, Bool, List, [], OnOk, false, true};
+ghost use Rattle.oxt_traverse.specs.Level.{IsOpen, IsOpenAt};
+ghost use Rattle.oxt_traverse.specs.Ran.{HasRun};
+ghost use Rattle.oxt_traverse.specs.Visits.{Visit};
 ghost use Rattle.oxt_traverse.specs.declared.hook.Hook.TheVariants as hook;
 ghost use Rattle.oxt_tree.specs.Doc.{list};
 ghost use Rattle.oxt_tree.specs.View.{docs_in, node_doc};
@@ -43,9 +44,7 @@ pub trait Traverse {
         ctx: &mut TraverseCtx,
     ) -> Result<(), OutOfMemory>
         requires open { IsOpenAt hook ctx.old }
-        ensures level { OnOk result (IsLevel ctx.old ctx.new) }
-        ensures untouched { OnOk result (IsUntouched (watches ≡ true) (node_doc node.old) (node_doc node.new) ctx.old ctx.new) }
-        ensures logged { OnOk result (log self.new ≡ log self.old ++ trace (visit hook (node_doc node.old))) };
+        ensures { OnOk result (HasRun (watches ≡ true) trace hook (node_doc node.old) (node_doc node.new) ctx.old ctx.new (log self.old) (log self.new)) };
 
     /// What the hook does where the pass does not write it, at a list of statements.
     fn at_statements(
@@ -55,24 +54,18 @@ pub trait Traverse {
         ctx: &mut TraverseCtx,
     ) -> Result<(), OutOfMemory>
         requires open { IsOpen ctx.old }
-        ensures level { OnOk result (IsLevel ctx.old ctx.new) }
-        ensures untouched { OnOk result (IsUntouched (watches ≡ true) (list (docs_in statements.old.items)) (list (docs_in statements.new.items)) ctx.old ctx.new) }
-        ensures logged { OnOk result (log self.new ≡ log self.old ++ trace (visit hook (list (docs_in statements.old.items)))) };
+        ensures { OnOk result (HasRun (watches ≡ true) trace hook (list (docs_in statements.old.items)) (list (docs_in statements.new.items)) ctx.old ctx.new (log self.old) (log self.new)) };
 
     /// Before the parts of the program.
     fn enter_program(&mut self, node: &mut Node, ctx: &mut TraverseCtx) -> Result<(), OutOfMemory>
-        ensures level { OnOk result (IsLevel ctx.old ctx.new) }
-        ensures untouched { OnOk result (IsUntouched (watches ≡ true) (node_doc node.old) (node_doc node.new) ctx.old ctx.new) }
-        ensures logged { OnOk result (log self.new ≡ log self.old ++ trace (visit hook.EnterProgram (node_doc node.old))) }
+        ensures { OnOk result (HasRun (watches ≡ true) trace hook.EnterProgram (node_doc node.old) (node_doc node.new) ctx.old ctx.new (log self.old) (log self.new)) }
     {
         self.at_node(Hook::EnterProgram, node, ctx)
     }
 
     /// After the parts of the program.
     fn exit_program(&mut self, node: &mut Node, ctx: &mut TraverseCtx) -> Result<(), OutOfMemory>
-        ensures level { OnOk result (IsLevel ctx.old ctx.new) }
-        ensures untouched { OnOk result (IsUntouched (watches ≡ true) (node_doc node.old) (node_doc node.new) ctx.old ctx.new) }
-        ensures logged { OnOk result (log self.new ≡ log self.old ++ trace (visit hook.ExitProgram (node_doc node.old))) }
+        ensures { OnOk result (HasRun (watches ≡ true) trace hook.ExitProgram (node_doc node.old) (node_doc node.new) ctx.old ctx.new (log self.old) (log self.new)) }
     {
         self.at_node(Hook::ExitProgram, node, ctx)
     }
@@ -84,9 +77,7 @@ pub trait Traverse {
         ctx: &mut TraverseCtx,
     ) -> Result<(), OutOfMemory>
         requires open { IsOpen ctx.old }
-        ensures level { OnOk result (IsLevel ctx.old ctx.new) }
-        ensures untouched { OnOk result (IsUntouched (watches ≡ true) (list (docs_in statements.old.items)) (list (docs_in statements.new.items)) ctx.old ctx.new) }
-        ensures logged { OnOk result (log self.new ≡ log self.old ++ trace (visit hook.EnterStatements (list (docs_in statements.old.items)))) }
+        ensures { OnOk result (HasRun (watches ≡ true) trace hook.EnterStatements (list (docs_in statements.old.items)) (list (docs_in statements.new.items)) ctx.old ctx.new (log self.old) (log self.new)) }
     {
         self.at_statements(Hook::EnterStatements, statements, ctx)
     }
@@ -98,9 +89,7 @@ pub trait Traverse {
         ctx: &mut TraverseCtx,
     ) -> Result<(), OutOfMemory>
         requires open { IsOpen ctx.old }
-        ensures level { OnOk result (IsLevel ctx.old ctx.new) }
-        ensures untouched { OnOk result (IsUntouched (watches ≡ true) (list (docs_in statements.old.items)) (list (docs_in statements.new.items)) ctx.old ctx.new) }
-        ensures logged { OnOk result (log self.new ≡ log self.old ++ trace (visit hook.ExitStatements (list (docs_in statements.old.items)))) }
+        ensures { OnOk result (HasRun (watches ≡ true) trace hook.ExitStatements (list (docs_in statements.old.items)) (list (docs_in statements.new.items)) ctx.old ctx.new (log self.old) (log self.new)) }
     {
         self.at_statements(Hook::ExitStatements, statements, ctx)
     }
@@ -108,9 +97,7 @@ pub trait Traverse {
     /// Before the parts of a statement.
     fn enter_statement(&mut self, node: &mut Node, ctx: &mut TraverseCtx) -> Result<(), OutOfMemory>
         requires open { IsOpen ctx.old }
-        ensures level { OnOk result (IsLevel ctx.old ctx.new) }
-        ensures untouched { OnOk result (IsUntouched (watches ≡ true) (node_doc node.old) (node_doc node.new) ctx.old ctx.new) }
-        ensures logged { OnOk result (log self.new ≡ log self.old ++ trace (visit hook.EnterStatement (node_doc node.old))) }
+        ensures { OnOk result (HasRun (watches ≡ true) trace hook.EnterStatement (node_doc node.old) (node_doc node.new) ctx.old ctx.new (log self.old) (log self.new)) }
     {
         self.at_node(Hook::EnterStatement, node, ctx)
     }
@@ -118,9 +105,7 @@ pub trait Traverse {
     /// After the parts of a statement.
     fn exit_statement(&mut self, node: &mut Node, ctx: &mut TraverseCtx) -> Result<(), OutOfMemory>
         requires open { IsOpen ctx.old }
-        ensures level { OnOk result (IsLevel ctx.old ctx.new) }
-        ensures untouched { OnOk result (IsUntouched (watches ≡ true) (node_doc node.old) (node_doc node.new) ctx.old ctx.new) }
-        ensures logged { OnOk result (log self.new ≡ log self.old ++ trace (visit hook.ExitStatement (node_doc node.old))) }
+        ensures { OnOk result (HasRun (watches ≡ true) trace hook.ExitStatement (node_doc node.old) (node_doc node.new) ctx.old ctx.new (log self.old) (log self.new)) }
     {
         self.at_node(Hook::ExitStatement, node, ctx)
     }
@@ -128,9 +113,7 @@ pub trait Traverse {
     /// Before the parts of a class.
     fn enter_class(&mut self, node: &mut Node, ctx: &mut TraverseCtx) -> Result<(), OutOfMemory>
         requires open { IsOpen ctx.old }
-        ensures level { OnOk result (IsLevel ctx.old ctx.new) }
-        ensures untouched { OnOk result (IsUntouched (watches ≡ true) (node_doc node.old) (node_doc node.new) ctx.old ctx.new) }
-        ensures logged { OnOk result (log self.new ≡ log self.old ++ trace (visit hook.EnterClass (node_doc node.old))) }
+        ensures { OnOk result (HasRun (watches ≡ true) trace hook.EnterClass (node_doc node.old) (node_doc node.new) ctx.old ctx.new (log self.old) (log self.new)) }
     {
         self.at_node(Hook::EnterClass, node, ctx)
     }
@@ -138,9 +121,7 @@ pub trait Traverse {
     /// After the parts of a class.
     fn exit_class(&mut self, node: &mut Node, ctx: &mut TraverseCtx) -> Result<(), OutOfMemory>
         requires open { IsOpen ctx.old }
-        ensures level { OnOk result (IsLevel ctx.old ctx.new) }
-        ensures untouched { OnOk result (IsUntouched (watches ≡ true) (node_doc node.old) (node_doc node.new) ctx.old ctx.new) }
-        ensures logged { OnOk result (log self.new ≡ log self.old ++ trace (visit hook.ExitClass (node_doc node.old))) }
+        ensures { OnOk result (HasRun (watches ≡ true) trace hook.ExitClass (node_doc node.old) (node_doc node.new) ctx.old ctx.new (log self.old) (log self.new)) }
     {
         self.at_node(Hook::ExitClass, node, ctx)
     }
@@ -152,9 +133,7 @@ pub trait Traverse {
         ctx: &mut TraverseCtx,
     ) -> Result<(), OutOfMemory>
         requires open { IsOpen ctx.old }
-        ensures level { OnOk result (IsLevel ctx.old ctx.new) }
-        ensures untouched { OnOk result (IsUntouched (watches ≡ true) (node_doc node.old) (node_doc node.new) ctx.old ctx.new) }
-        ensures logged { OnOk result (log self.new ≡ log self.old ++ trace (visit hook.EnterMethodDefinition (node_doc node.old))) }
+        ensures { OnOk result (HasRun (watches ≡ true) trace hook.EnterMethodDefinition (node_doc node.old) (node_doc node.new) ctx.old ctx.new (log self.old) (log self.new)) }
     {
         self.at_node(Hook::EnterMethodDefinition, node, ctx)
     }
@@ -166,9 +145,7 @@ pub trait Traverse {
         ctx: &mut TraverseCtx,
     ) -> Result<(), OutOfMemory>
         requires open { IsOpen ctx.old }
-        ensures level { OnOk result (IsLevel ctx.old ctx.new) }
-        ensures untouched { OnOk result (IsUntouched (watches ≡ true) (node_doc node.old) (node_doc node.new) ctx.old ctx.new) }
-        ensures logged { OnOk result (log self.new ≡ log self.old ++ trace (visit hook.ExitMethodDefinition (node_doc node.old))) }
+        ensures { OnOk result (HasRun (watches ≡ true) trace hook.ExitMethodDefinition (node_doc node.old) (node_doc node.new) ctx.old ctx.new (log self.old) (log self.new)) }
     {
         self.at_node(Hook::ExitMethodDefinition, node, ctx)
     }
@@ -180,9 +157,7 @@ pub trait Traverse {
         ctx: &mut TraverseCtx,
     ) -> Result<(), OutOfMemory>
         requires open { IsOpen ctx.old }
-        ensures level { OnOk result (IsLevel ctx.old ctx.new) }
-        ensures untouched { OnOk result (IsUntouched (watches ≡ true) (node_doc node.old) (node_doc node.new) ctx.old ctx.new) }
-        ensures logged { OnOk result (log self.new ≡ log self.old ++ trace (visit hook.EnterAccessorProperty (node_doc node.old))) }
+        ensures { OnOk result (HasRun (watches ≡ true) trace hook.EnterAccessorProperty (node_doc node.old) (node_doc node.new) ctx.old ctx.new (log self.old) (log self.new)) }
     {
         self.at_node(Hook::EnterAccessorProperty, node, ctx)
     }
@@ -194,9 +169,7 @@ pub trait Traverse {
         ctx: &mut TraverseCtx,
     ) -> Result<(), OutOfMemory>
         requires open { IsOpen ctx.old }
-        ensures level { OnOk result (IsLevel ctx.old ctx.new) }
-        ensures untouched { OnOk result (IsUntouched (watches ≡ true) (node_doc node.old) (node_doc node.new) ctx.old ctx.new) }
-        ensures logged { OnOk result (log self.new ≡ log self.old ++ trace (visit hook.ExitAccessorProperty (node_doc node.old))) }
+        ensures { OnOk result (HasRun (watches ≡ true) trace hook.ExitAccessorProperty (node_doc node.old) (node_doc node.new) ctx.old ctx.new (log self.old) (log self.new)) }
     {
         self.at_node(Hook::ExitAccessorProperty, node, ctx)
     }
@@ -208,9 +181,7 @@ pub trait Traverse {
         ctx: &mut TraverseCtx,
     ) -> Result<(), OutOfMemory>
         requires open { IsOpen ctx.old }
-        ensures level { OnOk result (IsLevel ctx.old ctx.new) }
-        ensures untouched { OnOk result (IsUntouched (watches ≡ true) (node_doc node.old) (node_doc node.new) ctx.old ctx.new) }
-        ensures logged { OnOk result (log self.new ≡ log self.old ++ trace (visit hook.EnterPropertyDefinition (node_doc node.old))) }
+        ensures { OnOk result (HasRun (watches ≡ true) trace hook.EnterPropertyDefinition (node_doc node.old) (node_doc node.new) ctx.old ctx.new (log self.old) (log self.new)) }
     {
         self.at_node(Hook::EnterPropertyDefinition, node, ctx)
     }
@@ -222,9 +193,7 @@ pub trait Traverse {
         ctx: &mut TraverseCtx,
     ) -> Result<(), OutOfMemory>
         requires open { IsOpen ctx.old }
-        ensures level { OnOk result (IsLevel ctx.old ctx.new) }
-        ensures untouched { OnOk result (IsUntouched (watches ≡ true) (node_doc node.old) (node_doc node.new) ctx.old ctx.new) }
-        ensures logged { OnOk result (log self.new ≡ log self.old ++ trace (visit hook.ExitPropertyDefinition (node_doc node.old))) }
+        ensures { OnOk result (HasRun (watches ≡ true) trace hook.ExitPropertyDefinition (node_doc node.old) (node_doc node.new) ctx.old ctx.new (log self.old) (log self.new)) }
     {
         self.at_node(Hook::ExitPropertyDefinition, node, ctx)
     }
@@ -232,9 +201,7 @@ pub trait Traverse {
     /// Before the parts of a function that is no arrow.
     fn enter_function(&mut self, node: &mut Node, ctx: &mut TraverseCtx) -> Result<(), OutOfMemory>
         requires open { IsOpen ctx.old }
-        ensures level { OnOk result (IsLevel ctx.old ctx.new) }
-        ensures untouched { OnOk result (IsUntouched (watches ≡ true) (node_doc node.old) (node_doc node.new) ctx.old ctx.new) }
-        ensures logged { OnOk result (log self.new ≡ log self.old ++ trace (visit hook.EnterFunction (node_doc node.old))) }
+        ensures { OnOk result (HasRun (watches ≡ true) trace hook.EnterFunction (node_doc node.old) (node_doc node.new) ctx.old ctx.new (log self.old) (log self.new)) }
     {
         self.at_node(Hook::EnterFunction, node, ctx)
     }
@@ -242,9 +209,7 @@ pub trait Traverse {
     /// After the parts of a function that is no arrow.
     fn exit_function(&mut self, node: &mut Node, ctx: &mut TraverseCtx) -> Result<(), OutOfMemory>
         requires open { IsOpen ctx.old }
-        ensures level { OnOk result (IsLevel ctx.old ctx.new) }
-        ensures untouched { OnOk result (IsUntouched (watches ≡ true) (node_doc node.old) (node_doc node.new) ctx.old ctx.new) }
-        ensures logged { OnOk result (log self.new ≡ log self.old ++ trace (visit hook.ExitFunction (node_doc node.old))) }
+        ensures { OnOk result (HasRun (watches ≡ true) trace hook.ExitFunction (node_doc node.old) (node_doc node.new) ctx.old ctx.new (log self.old) (log self.new)) }
     {
         self.at_node(Hook::ExitFunction, node, ctx)
     }
@@ -256,9 +221,7 @@ pub trait Traverse {
         ctx: &mut TraverseCtx,
     ) -> Result<(), OutOfMemory>
         requires open { IsOpen ctx.old }
-        ensures level { OnOk result (IsLevel ctx.old ctx.new) }
-        ensures untouched { OnOk result (IsUntouched (watches ≡ true) (node_doc node.old) (node_doc node.new) ctx.old ctx.new) }
-        ensures logged { OnOk result (log self.new ≡ log self.old ++ trace (visit hook.ExitClassAtEnd (node_doc node.old))) }
+        ensures { OnOk result (HasRun (watches ≡ true) trace hook.ExitClassAtEnd (node_doc node.old) (node_doc node.new) ctx.old ctx.new (log self.old) (log self.new)) }
     {
         self.at_node(Hook::ExitClassAtEnd, node, ctx)
     }
@@ -270,9 +233,7 @@ pub trait Traverse {
         ctx: &mut TraverseCtx,
     ) -> Result<(), OutOfMemory>
         requires open { IsOpen ctx.old }
-        ensures level { OnOk result (IsLevel ctx.old ctx.new) }
-        ensures untouched { OnOk result (IsUntouched (watches ≡ true) (node_doc node.old) (node_doc node.new) ctx.old ctx.new) }
-        ensures logged { OnOk result (log self.new ≡ log self.old ++ trace (visit hook.EnterDeclaration (node_doc node.old))) }
+        ensures { OnOk result (HasRun (watches ≡ true) trace hook.EnterDeclaration (node_doc node.old) (node_doc node.new) ctx.old ctx.new (log self.old) (log self.new)) }
     {
         self.at_node(Hook::EnterDeclaration, node, ctx)
     }
@@ -284,9 +245,7 @@ pub trait Traverse {
         ctx: &mut TraverseCtx,
     ) -> Result<(), OutOfMemory>
         requires open { IsOpen ctx.old }
-        ensures level { OnOk result (IsLevel ctx.old ctx.new) }
-        ensures untouched { OnOk result (IsUntouched (watches ≡ true) (node_doc node.old) (node_doc node.new) ctx.old ctx.new) }
-        ensures logged { OnOk result (log self.new ≡ log self.old ++ trace (visit hook.EnterExpression (node_doc node.old))) }
+        ensures { OnOk result (HasRun (watches ≡ true) trace hook.EnterExpression (node_doc node.old) (node_doc node.new) ctx.old ctx.new (log self.old) (log self.new)) }
     {
         self.at_node(Hook::EnterExpression, node, ctx)
     }
@@ -294,9 +253,7 @@ pub trait Traverse {
     /// Before the parts of a decorator.
     fn enter_decorator(&mut self, node: &mut Node, ctx: &mut TraverseCtx) -> Result<(), OutOfMemory>
         requires open { IsOpen ctx.old }
-        ensures level { OnOk result (IsLevel ctx.old ctx.new) }
-        ensures untouched { OnOk result (IsUntouched (watches ≡ true) (node_doc node.old) (node_doc node.new) ctx.old ctx.new) }
-        ensures logged { OnOk result (log self.new ≡ log self.old ++ trace (visit hook.EnterDecorator (node_doc node.old))) }
+        ensures { OnOk result (HasRun (watches ≡ true) trace hook.EnterDecorator (node_doc node.old) (node_doc node.new) ctx.old ctx.new (log self.old) (log self.new)) }
     {
         self.at_node(Hook::EnterDecorator, node, ctx)
     }
@@ -308,9 +265,7 @@ pub trait Traverse {
         ctx: &mut TraverseCtx,
     ) -> Result<(), OutOfMemory>
         requires open { IsOpen ctx.old }
-        ensures level { OnOk result (IsLevel ctx.old ctx.new) }
-        ensures untouched { OnOk result (IsUntouched (watches ≡ true) (node_doc node.old) (node_doc node.new) ctx.old ctx.new) }
-        ensures logged { OnOk result (log self.new ≡ log self.old ++ trace (visit hook.EnterArrowFunctionExpression (node_doc node.old))) }
+        ensures { OnOk result (HasRun (watches ≡ true) trace hook.EnterArrowFunctionExpression (node_doc node.old) (node_doc node.new) ctx.old ctx.new (log self.old) (log self.new)) }
     {
         self.at_node(Hook::EnterArrowFunctionExpression, node, ctx)
     }
@@ -322,9 +277,7 @@ pub trait Traverse {
         ctx: &mut TraverseCtx,
     ) -> Result<(), OutOfMemory>
         requires open { IsOpen ctx.old }
-        ensures level { OnOk result (IsLevel ctx.old ctx.new) }
-        ensures untouched { OnOk result (IsUntouched (watches ≡ true) (node_doc node.old) (node_doc node.new) ctx.old ctx.new) }
-        ensures logged { OnOk result (log self.new ≡ log self.old ++ trace (visit hook.EnterVariableDeclaration (node_doc node.old))) }
+        ensures { OnOk result (HasRun (watches ≡ true) trace hook.EnterVariableDeclaration (node_doc node.old) (node_doc node.new) ctx.old ctx.new (log self.old) (log self.new)) }
     {
         self.at_node(Hook::EnterVariableDeclaration, node, ctx)
     }
@@ -336,9 +289,7 @@ pub trait Traverse {
         ctx: &mut TraverseCtx,
     ) -> Result<(), OutOfMemory>
         requires open { IsOpen ctx.old }
-        ensures level { OnOk result (IsLevel ctx.old ctx.new) }
-        ensures untouched { OnOk result (IsUntouched (watches ≡ true) (node_doc node.old) (node_doc node.new) ctx.old ctx.new) }
-        ensures logged { OnOk result (log self.new ≡ log self.old ++ trace (visit hook.EnterVariableDeclarator (node_doc node.old))) }
+        ensures { OnOk result (HasRun (watches ≡ true) trace hook.EnterVariableDeclarator (node_doc node.old) (node_doc node.new) ctx.old ctx.new (log self.old) (log self.new)) }
     {
         self.at_node(Hook::EnterVariableDeclarator, node, ctx)
     }
@@ -350,9 +301,7 @@ pub trait Traverse {
         ctx: &mut TraverseCtx,
     ) -> Result<(), OutOfMemory>
         requires open { IsOpen ctx.old }
-        ensures level { OnOk result (IsLevel ctx.old ctx.new) }
-        ensures untouched { OnOk result (IsUntouched (watches ≡ true) (node_doc node.old) (node_doc node.new) ctx.old ctx.new) }
-        ensures logged { OnOk result (log self.new ≡ log self.old ++ trace (visit hook.EnterCallExpression (node_doc node.old))) }
+        ensures { OnOk result (HasRun (watches ≡ true) trace hook.EnterCallExpression (node_doc node.old) (node_doc node.new) ctx.old ctx.new (log self.old) (log self.new)) }
     {
         self.at_node(Hook::EnterCallExpression, node, ctx)
     }
@@ -364,9 +313,7 @@ pub trait Traverse {
         ctx: &mut TraverseCtx,
     ) -> Result<(), OutOfMemory>
         requires open { IsOpen ctx.old }
-        ensures level { OnOk result (IsLevel ctx.old ctx.new) }
-        ensures untouched { OnOk result (IsUntouched (watches ≡ true) (node_doc node.old) (node_doc node.new) ctx.old ctx.new) }
-        ensures logged { OnOk result (log self.new ≡ log self.old ++ trace (visit hook.EnterNewExpression (node_doc node.old))) }
+        ensures { OnOk result (HasRun (watches ≡ true) trace hook.EnterNewExpression (node_doc node.old) (node_doc node.new) ctx.old ctx.new (log self.old) (log self.new)) }
     {
         self.at_node(Hook::EnterNewExpression, node, ctx)
     }
@@ -378,9 +325,7 @@ pub trait Traverse {
         ctx: &mut TraverseCtx,
     ) -> Result<(), OutOfMemory>
         requires open { IsOpen ctx.old }
-        ensures level { OnOk result (IsLevel ctx.old ctx.new) }
-        ensures untouched { OnOk result (IsUntouched (watches ≡ true) (node_doc node.old) (node_doc node.new) ctx.old ctx.new) }
-        ensures logged { OnOk result (log self.new ≡ log self.old ++ trace (visit hook.EnterTaggedTemplateExpression (node_doc node.old))) }
+        ensures { OnOk result (HasRun (watches ≡ true) trace hook.EnterTaggedTemplateExpression (node_doc node.old) (node_doc node.new) ctx.old ctx.new (log self.old) (log self.new)) }
     {
         self.at_node(Hook::EnterTaggedTemplateExpression, node, ctx)
     }
@@ -392,9 +337,7 @@ pub trait Traverse {
         ctx: &mut TraverseCtx,
     ) -> Result<(), OutOfMemory>
         requires open { IsOpen ctx.old }
-        ensures level { OnOk result (IsLevel ctx.old ctx.new) }
-        ensures untouched { OnOk result (IsUntouched (watches ≡ true) (node_doc node.old) (node_doc node.new) ctx.old ctx.new) }
-        ensures logged { OnOk result (log self.new ≡ log self.old ++ trace (visit hook.EnterImportExpression (node_doc node.old))) }
+        ensures { OnOk result (HasRun (watches ≡ true) trace hook.EnterImportExpression (node_doc node.old) (node_doc node.new) ctx.old ctx.new (log self.old) (log self.new)) }
     {
         self.at_node(Hook::EnterImportExpression, node, ctx)
     }
@@ -406,9 +349,7 @@ pub trait Traverse {
         ctx: &mut TraverseCtx,
     ) -> Result<(), OutOfMemory>
         requires open { IsOpen ctx.old }
-        ensures level { OnOk result (IsLevel ctx.old ctx.new) }
-        ensures untouched { OnOk result (IsUntouched (watches ≡ true) (node_doc node.old) (node_doc node.new) ctx.old ctx.new) }
-        ensures logged { OnOk result (log self.new ≡ log self.old ++ trace (visit hook.EnterChainElement (node_doc node.old))) }
+        ensures { OnOk result (HasRun (watches ≡ true) trace hook.EnterChainElement (node_doc node.old) (node_doc node.new) ctx.old ctx.new (log self.old) (log self.new)) }
     {
         self.at_node(Hook::EnterChainElement, node, ctx)
     }
@@ -420,9 +361,7 @@ pub trait Traverse {
         ctx: &mut TraverseCtx,
     ) -> Result<(), OutOfMemory>
         requires open { IsOpen ctx.old }
-        ensures level { OnOk result (IsLevel ctx.old ctx.new) }
-        ensures untouched { OnOk result (IsUntouched (watches ≡ true) (node_doc node.old) (node_doc node.new) ctx.old ctx.new) }
-        ensures logged { OnOk result (log self.new ≡ log self.old ++ trace (visit hook.EnterSimpleAssignmentTarget (node_doc node.old))) }
+        ensures { OnOk result (HasRun (watches ≡ true) trace hook.EnterSimpleAssignmentTarget (node_doc node.old) (node_doc node.new) ctx.old ctx.new (log self.old) (log self.new)) }
     {
         self.at_node(Hook::EnterSimpleAssignmentTarget, node, ctx)
     }
@@ -434,9 +373,7 @@ pub trait Traverse {
         ctx: &mut TraverseCtx,
     ) -> Result<(), OutOfMemory>
         requires open { IsOpen ctx.old }
-        ensures level { OnOk result (IsLevel ctx.old ctx.new) }
-        ensures untouched { OnOk result (IsUntouched (watches ≡ true) (node_doc node.old) (node_doc node.new) ctx.old ctx.new) }
-        ensures logged { OnOk result (log self.new ≡ log self.old ++ trace (visit hook.EnterAssignmentTarget (node_doc node.old))) }
+        ensures { OnOk result (HasRun (watches ≡ true) trace hook.EnterAssignmentTarget (node_doc node.old) (node_doc node.new) ctx.old ctx.new (log self.old) (log self.new)) }
     {
         self.at_node(Hook::EnterAssignmentTarget, node, ctx)
     }
@@ -448,9 +385,7 @@ pub trait Traverse {
         ctx: &mut TraverseCtx,
     ) -> Result<(), OutOfMemory>
         requires open { IsOpen ctx.old }
-        ensures level { OnOk result (IsLevel ctx.old ctx.new) }
-        ensures untouched { OnOk result (IsUntouched (watches ≡ true) (node_doc node.old) (node_doc node.new) ctx.old ctx.new) }
-        ensures logged { OnOk result (log self.new ≡ log self.old ++ trace (visit hook.EnterFormalParameter (node_doc node.old))) }
+        ensures { OnOk result (HasRun (watches ≡ true) trace hook.EnterFormalParameter (node_doc node.old) (node_doc node.new) ctx.old ctx.new (log self.old) (log self.new)) }
     {
         self.at_node(Hook::EnterFormalParameter, node, ctx)
     }
@@ -462,9 +397,7 @@ pub trait Traverse {
         ctx: &mut TraverseCtx,
     ) -> Result<(), OutOfMemory>
         requires open { IsOpen ctx.old }
-        ensures level { OnOk result (IsLevel ctx.old ctx.new) }
-        ensures untouched { OnOk result (IsUntouched (watches ≡ true) (node_doc node.old) (node_doc node.new) ctx.old ctx.new) }
-        ensures logged { OnOk result (log self.new ≡ log self.old ++ trace (visit hook.EnterFormalParameterRest (node_doc node.old))) }
+        ensures { OnOk result (HasRun (watches ≡ true) trace hook.EnterFormalParameterRest (node_doc node.old) (node_doc node.new) ctx.old ctx.new (log self.old) (log self.new)) }
     {
         self.at_node(Hook::EnterFormalParameterRest, node, ctx)
     }
@@ -476,9 +409,7 @@ pub trait Traverse {
         ctx: &mut TraverseCtx,
     ) -> Result<(), OutOfMemory>
         requires open { IsOpen ctx.old }
-        ensures level { OnOk result (IsLevel ctx.old ctx.new) }
-        ensures untouched { OnOk result (IsUntouched (watches ≡ true) (node_doc node.old) (node_doc node.new) ctx.old ctx.new) }
-        ensures logged { OnOk result (log self.new ≡ log self.old ++ trace (visit hook.EnterCatchParameter (node_doc node.old))) }
+        ensures { OnOk result (HasRun (watches ≡ true) trace hook.EnterCatchParameter (node_doc node.old) (node_doc node.new) ctx.old ctx.new (log self.old) (log self.new)) }
     {
         self.at_node(Hook::EnterCatchParameter, node, ctx)
     }
@@ -490,9 +421,7 @@ pub trait Traverse {
         ctx: &mut TraverseCtx,
     ) -> Result<(), OutOfMemory>
         requires open { IsOpen ctx.old }
-        ensures level { OnOk result (IsLevel ctx.old ctx.new) }
-        ensures untouched { OnOk result (IsUntouched (watches ≡ true) (node_doc node.old) (node_doc node.new) ctx.old ctx.new) }
-        ensures logged { OnOk result (log self.new ≡ log self.old ++ trace (visit hook.EnterJsxOpeningElement (node_doc node.old))) }
+        ensures { OnOk result (HasRun (watches ≡ true) trace hook.EnterJsxOpeningElement (node_doc node.old) (node_doc node.new) ctx.old ctx.new (log self.old) (log self.new)) }
     {
         self.at_node(Hook::EnterJsxOpeningElement, node, ctx)
     }
@@ -504,9 +433,7 @@ pub trait Traverse {
         ctx: &mut TraverseCtx,
     ) -> Result<(), OutOfMemory>
         requires open { IsOpen ctx.old }
-        ensures level { OnOk result (IsLevel ctx.old ctx.new) }
-        ensures untouched { OnOk result (IsUntouched (watches ≡ true) (node_doc node.old) (node_doc node.new) ctx.old ctx.new) }
-        ensures logged { OnOk result (log self.new ≡ log self.old ++ trace (visit hook.EnterJsxElement (node_doc node.old))) }
+        ensures { OnOk result (HasRun (watches ≡ true) trace hook.EnterJsxElement (node_doc node.old) (node_doc node.new) ctx.old ctx.new (log self.old) (log self.new)) }
     {
         self.at_node(Hook::EnterJsxElement, node, ctx)
     }
@@ -518,9 +445,7 @@ pub trait Traverse {
         ctx: &mut TraverseCtx,
     ) -> Result<(), OutOfMemory>
         requires open { IsOpen ctx.old }
-        ensures level { OnOk result (IsLevel ctx.old ctx.new) }
-        ensures untouched { OnOk result (IsUntouched (watches ≡ true) (node_doc node.old) (node_doc node.new) ctx.old ctx.new) }
-        ensures logged { OnOk result (log self.new ≡ log self.old ++ trace (visit hook.EnterJsxFragment (node_doc node.old))) }
+        ensures { OnOk result (HasRun (watches ≡ true) trace hook.EnterJsxFragment (node_doc node.old) (node_doc node.new) ctx.old ctx.new (log self.old) (log self.new)) }
     {
         self.at_node(Hook::EnterJsxFragment, node, ctx)
     }
@@ -532,9 +457,7 @@ pub trait Traverse {
         ctx: &mut TraverseCtx,
     ) -> Result<(), OutOfMemory>
         requires open { IsOpen ctx.old }
-        ensures level { OnOk result (IsLevel ctx.old ctx.new) }
-        ensures untouched { OnOk result (IsUntouched (watches ≡ true) (node_doc node.old) (node_doc node.new) ctx.old ctx.new) }
-        ensures logged { OnOk result (log self.new ≡ log self.old ++ trace (visit hook.EnterIfStatement (node_doc node.old))) }
+        ensures { OnOk result (HasRun (watches ≡ true) trace hook.EnterIfStatement (node_doc node.old) (node_doc node.new) ctx.old ctx.new (log self.old) (log self.new)) }
     {
         self.at_node(Hook::EnterIfStatement, node, ctx)
     }
@@ -546,9 +469,7 @@ pub trait Traverse {
         ctx: &mut TraverseCtx,
     ) -> Result<(), OutOfMemory>
         requires open { IsOpen ctx.old }
-        ensures level { OnOk result (IsLevel ctx.old ctx.new) }
-        ensures untouched { OnOk result (IsUntouched (watches ≡ true) (node_doc node.old) (node_doc node.new) ctx.old ctx.new) }
-        ensures logged { OnOk result (log self.new ≡ log self.old ++ trace (visit hook.EnterWhileStatement (node_doc node.old))) }
+        ensures { OnOk result (HasRun (watches ≡ true) trace hook.EnterWhileStatement (node_doc node.old) (node_doc node.new) ctx.old ctx.new (log self.old) (log self.new)) }
     {
         self.at_node(Hook::EnterWhileStatement, node, ctx)
     }
@@ -560,9 +481,7 @@ pub trait Traverse {
         ctx: &mut TraverseCtx,
     ) -> Result<(), OutOfMemory>
         requires open { IsOpen ctx.old }
-        ensures level { OnOk result (IsLevel ctx.old ctx.new) }
-        ensures untouched { OnOk result (IsUntouched (watches ≡ true) (node_doc node.old) (node_doc node.new) ctx.old ctx.new) }
-        ensures logged { OnOk result (log self.new ≡ log self.old ++ trace (visit hook.EnterDoWhileStatement (node_doc node.old))) }
+        ensures { OnOk result (HasRun (watches ≡ true) trace hook.EnterDoWhileStatement (node_doc node.old) (node_doc node.new) ctx.old ctx.new (log self.old) (log self.new)) }
     {
         self.at_node(Hook::EnterDoWhileStatement, node, ctx)
     }
@@ -574,9 +493,7 @@ pub trait Traverse {
         ctx: &mut TraverseCtx,
     ) -> Result<(), OutOfMemory>
         requires open { IsOpen ctx.old }
-        ensures level { OnOk result (IsLevel ctx.old ctx.new) }
-        ensures untouched { OnOk result (IsUntouched (watches ≡ true) (node_doc node.old) (node_doc node.new) ctx.old ctx.new) }
-        ensures logged { OnOk result (log self.new ≡ log self.old ++ trace (visit hook.EnterForStatement (node_doc node.old))) }
+        ensures { OnOk result (HasRun (watches ≡ true) trace hook.EnterForStatement (node_doc node.old) (node_doc node.new) ctx.old ctx.new (log self.old) (log self.new)) }
     {
         self.at_node(Hook::EnterForStatement, node, ctx)
     }
@@ -588,9 +505,7 @@ pub trait Traverse {
         ctx: &mut TraverseCtx,
     ) -> Result<(), OutOfMemory>
         requires open { IsOpen ctx.old }
-        ensures level { OnOk result (IsLevel ctx.old ctx.new) }
-        ensures untouched { OnOk result (IsUntouched (watches ≡ true) (node_doc node.old) (node_doc node.new) ctx.old ctx.new) }
-        ensures logged { OnOk result (log self.new ≡ log self.old ++ trace (visit hook.EnterForInStatement (node_doc node.old))) }
+        ensures { OnOk result (HasRun (watches ≡ true) trace hook.EnterForInStatement (node_doc node.old) (node_doc node.new) ctx.old ctx.new (log self.old) (log self.new)) }
     {
         self.at_node(Hook::EnterForInStatement, node, ctx)
     }
@@ -602,9 +517,7 @@ pub trait Traverse {
         ctx: &mut TraverseCtx,
     ) -> Result<(), OutOfMemory>
         requires open { IsOpen ctx.old }
-        ensures level { OnOk result (IsLevel ctx.old ctx.new) }
-        ensures untouched { OnOk result (IsUntouched (watches ≡ true) (node_doc node.old) (node_doc node.new) ctx.old ctx.new) }
-        ensures logged { OnOk result (log self.new ≡ log self.old ++ trace (visit hook.EnterForOfStatement (node_doc node.old))) }
+        ensures { OnOk result (HasRun (watches ≡ true) trace hook.EnterForOfStatement (node_doc node.old) (node_doc node.new) ctx.old ctx.new (log self.old) (log self.new)) }
     {
         self.at_node(Hook::EnterForOfStatement, node, ctx)
     }
@@ -616,9 +529,7 @@ pub trait Traverse {
         ctx: &mut TraverseCtx,
     ) -> Result<(), OutOfMemory>
         requires open { IsOpen ctx.old }
-        ensures level { OnOk result (IsLevel ctx.old ctx.new) }
-        ensures untouched { OnOk result (IsUntouched (watches ≡ true) (node_doc node.old) (node_doc node.new) ctx.old ctx.new) }
-        ensures logged { OnOk result (log self.new ≡ log self.old ++ trace (visit hook.EnterImportDeclaration (node_doc node.old))) }
+        ensures { OnOk result (HasRun (watches ≡ true) trace hook.EnterImportDeclaration (node_doc node.old) (node_doc node.new) ctx.old ctx.new (log self.old) (log self.new)) }
     {
         self.at_node(Hook::EnterImportDeclaration, node, ctx)
     }
@@ -630,9 +541,7 @@ pub trait Traverse {
         ctx: &mut TraverseCtx,
     ) -> Result<(), OutOfMemory>
         requires open { IsOpen ctx.old }
-        ensures level { OnOk result (IsLevel ctx.old ctx.new) }
-        ensures untouched { OnOk result (IsUntouched (watches ≡ true) (node_doc node.old) (node_doc node.new) ctx.old ctx.new) }
-        ensures logged { OnOk result (log self.new ≡ log self.old ++ trace (visit hook.EnterExportAllDeclaration (node_doc node.old))) }
+        ensures { OnOk result (HasRun (watches ≡ true) trace hook.EnterExportAllDeclaration (node_doc node.old) (node_doc node.new) ctx.old ctx.new (log self.old) (log self.new)) }
     {
         self.at_node(Hook::EnterExportAllDeclaration, node, ctx)
     }
@@ -644,9 +553,7 @@ pub trait Traverse {
         ctx: &mut TraverseCtx,
     ) -> Result<(), OutOfMemory>
         requires open { IsOpen ctx.old }
-        ensures level { OnOk result (IsLevel ctx.old ctx.new) }
-        ensures untouched { OnOk result (IsUntouched (watches ≡ true) (node_doc node.old) (node_doc node.new) ctx.old ctx.new) }
-        ensures logged { OnOk result (log self.new ≡ log self.old ++ trace (visit hook.EnterExportFromDeclaration (node_doc node.old))) }
+        ensures { OnOk result (HasRun (watches ≡ true) trace hook.EnterExportFromDeclaration (node_doc node.old) (node_doc node.new) ctx.old ctx.new (log self.old) (log self.new)) }
     {
         self.at_node(Hook::EnterExportFromDeclaration, node, ctx)
     }

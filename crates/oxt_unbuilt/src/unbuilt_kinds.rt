@@ -137,7 +137,7 @@ pub fn is_unbuilt(kind: Kind) -> bool
         Kind::TSNamespaceExportDeclaration => false,
         Kind::TSTypeAliasDeclaration => false,
         Kind::TSInterfaceDeclaration => false,
-        Kind::TSEnumDeclaration => true,
+        Kind::TSEnumDeclaration => false,
         Kind::TSEnumBody => false,
         Kind::TSEnumMember => false,
         Kind::TSNamespaceDeclaration => true,

@@ -56,8 +56,7 @@ member_fails id computed =
 
 abbrev pub is_constructor : Doc → Bool
 is_constructor d =
-    is_text (codes "constructor") (field_of (codes "kind") d)
-    && (is_kind kind.MethodDefinition d || is_kind kind.TSAbstractMethodDefinition d)
+    is_text (codes "constructor") (field_of (codes "kind") d) && is_kind kind.MethodDefinition d
 
 abbrev pub is_static_constructor : Doc → Bool
 is_static_constructor d = is_constructor d && is_set (field_of (codes "static") d)

@@ -165,9 +165,7 @@ fn is_constructor(part: &Part) -> bool
 {
     match part {
         Part::Node(element) => {
-            element.holds_text("kind", "constructor")
-                && (element.kind.is(Kind::MethodDefinition)
-                    || element.kind.is(Kind::TSAbstractMethodDefinition))
+            element.holds_text("kind", "constructor") && element.kind.is(Kind::MethodDefinition)
         }
         _ => false,
     }

@@ -208,10 +208,28 @@ fn walk_statements<T: Traverse>(
     ensures logged { OnOk result (HasLogged (IsWatched T.watches ctx.old) T.trace (T.log pass.old) (T.log pass.new) (of_statements (list (docs_in statements.old.items)) (visits_each (docs_in statements.old.items) place levels))) }
 {
     open_list(ctx)?;
+    walk_opened(pass, statements, place, levels, ctx)?;
+    close_statements(statements, is_program_body, ctx)
+}
+
+/// Walks a list of statements whose list of declarators is open: its hooks, and between them its
+/// elements.
+#[cycle(walk)]
+fn walk_opened<T: Traverse>(
+    pass: &mut T,
+    statements: &mut Vec<Part>,
+    place: Category,
+    levels: u32,
+    ctx: &mut TraverseCtx,
+) -> Result<(), OutOfMemory>
+    requires open { IsOpen ctx.old }
+    ensures level { OnOk result (IsLevel ctx.old ctx.new) }
+    ensures untouched { OnOk result (IsUntouched (IsWatched T.watches ctx.old) (list (docs_in statements.old.items)) (list (docs_in statements.new.items)) ctx.old ctx.new) }
+    ensures logged { OnOk result (HasLogged (IsWatched T.watches ctx.old) T.trace (T.log pass.old) (T.log pass.new) (of_statements (list (docs_in statements.old.items)) (visits_each (docs_in statements.old.items) place levels))) }
+{
     pass.enter_statements(statements, ctx)?;
     walk_elements(pass, statements, place, levels, ctx)?;
-    pass.exit_statements(statements, ctx)?;
-    close_statements(statements, is_program_body, ctx)
+    pass.exit_statements(statements, ctx)
 }
 
 /// Walks the elements of a list.

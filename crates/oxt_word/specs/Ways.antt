@@ -1,5 +1,5 @@
 -- How a node is read in the other ways.
-use Rattle.std.specs.Prelude.{List, [], ◌∷◌, ◌++◌, Bool, true, false, if◌then◌else◌, codes}
+use Rattle.std.specs.Prelude.{ℕ, List, [], ◌∷◌, ◌++◌, Bool, true, false, if◌then◌else◌, codes}
 use Rattle.oxt_grammar.specs.declared.kind.Kind.{Kind}
 use Rattle.oxt_tree.specs.Fields.{first}
 use Rattle.oxt_tree.specs.Doc.{Docs, flag, nil}
@@ -19,67 +19,67 @@ use Rattle.oxt_word.specs.declared.rule.Rule.TheVariants as rule
 use Rattle.oxt_word.specs.declared.way.Way.TheVariants as way
 
 -- A member that is written is its object and its key.
-abbrev pub target_word : Known → Rule → Kind → Docs → OneField → AllFields → List Entry
-target_word f rule.Transparent k ds c fs = c (codes "expression") way.Target
-target_word f rule.StaticMember k ds c fs =
+abbrev pub target_word : Known → Rule → Kind → ℕ → Docs → OneField → AllFields → List Entry
+target_word f rule.Transparent k i ds c fs = c (codes "expression") way.Target
+target_word f rule.StaticMember k i ds c fs =
     c (codes "object") way.Whole ++ c (codes "property") way.KeyText
-target_word f rule.ComputedMember k ds c fs =
+target_word f rule.ComputedMember k i ds c fs =
     c (codes "object") way.Whole ++ c (codes "expression") way.Whole
-target_word f rule.PrivateMember k ds c fs =
+target_word f rule.PrivateMember k i ds c fs =
     c (codes "object") way.Whole ++ c (codes "field") way.Whole
-target_word f r k ds c fs = whole_word f r k ds c fs
+target_word f r k i ds c fs = whole_word f r k i ds c fs
 
 -- Patterns and declarators bind their names.
-abbrev pub bound_word : Known → Binding → Bool → Rule → Kind → Docs → OneField → AllFields → List Entry
-bound_word f b x rule.Identifier k ds c fs =
-    bind_word f b x ds
-bound_word f b x rule.Pattern k ds c fs = opened k ds (fs (way.Bound b x))
-bound_word f b x rule.Declarator k ds c fs = declarator_word f b x k ds c
-bound_word f b x r k ds c fs = whole_word f r k ds c fs
+abbrev pub bound_word : Known → Binding → Bool → Rule → Kind → ℕ → Docs → OneField → AllFields → List Entry
+bound_word f b x rule.Identifier k i ds c fs =
+    bind_word f b x i ds
+bound_word f b x rule.Pattern k i ds c fs = opened k ds (fs (way.Bound b x))
+bound_word f b x rule.Declarator k i ds c fs = declarator_word f b x k ds c
+bound_word f b x r k i ds c fs = whole_word f r k i ds c fs
 
 -- What is declared by an export is exported.
-abbrev pub exported_word : Known → Rule → Kind → Docs → OneField → AllFields → List Entry
-exported_word f rule.Variables k ds c fs = variables_word true k ds c fs
-exported_word f rule.FunctionDeclaration k ds c fs = function_word true k ds c
-exported_word f rule.ClassDeclaration k ds c fs = class_word true k ds c
-exported_word f r k ds c fs = whole_word f r k ds c fs
+abbrev pub exported_word : Known → Rule → Kind → ℕ → Docs → OneField → AllFields → List Entry
+exported_word f rule.Variables k i ds c fs = variables_word true k ds c fs
+exported_word f rule.FunctionDeclaration k i ds c fs = function_word true k ds c
+exported_word f rule.ClassDeclaration k i ds c fs = class_word true k ds c
+exported_word f r k i ds c fs = whole_word f r k i ds c fs
 
 -- A function that is called where it stands is the entry with its parameter, its body and its end.
-abbrev pub entered_word : Known → Bool → Rule → Kind → Docs → OneField → AllFields → List Entry
-entered_word f p rule.Transparent k ds c fs = c (codes "expression") (way.Entered p)
-entered_word f p rule.FunctionExpression k ds c fs =
+abbrev pub entered_word : Known → Bool → Rule → Kind → ℕ → Docs → OneField → AllFields → List Entry
+entered_word f p rule.Transparent k i ds c fs = c (codes "expression") (way.Entered p)
+entered_word f p rule.FunctionExpression k i ds c fs =
     c (codes "params") (way.Entered p) ++ (c (codes "body") way.Whole ++ lone item.Out)
-entered_word f p rule.Parameters k ds c fs = c (codes "items") (way.Entered p)
-entered_word f p rule.Parameter k ds c fs = c (codes "pattern") (way.Entered p)
-entered_word f p rule.Identifier k ds c fs = in_word f p ds
-entered_word f p r k ds c fs = whole_word f r k ds c fs
+entered_word f p rule.Parameters k i ds c fs = c (codes "items") (way.Entered p)
+entered_word f p rule.Parameter k i ds c fs = c (codes "pattern") (way.Entered p)
+entered_word f p rule.Identifier k i ds c fs = in_word f p i ds
+entered_word f p r k i ds c fs = whole_word f r k i ds c fs
 
 -- The function of a constructor is its parameters and its body. One that passes on what it is given has
 -- no parameters.
-abbrev pub opened_word : Known → Rule → Kind → Docs → OneField → AllFields → List Entry
-opened_word f rule.FunctionExpression k ds c fs =
+abbrev pub opened_word : Known → Rule → Kind → ℕ → Docs → OneField → AllFields → List Entry
+opened_word f rule.FunctionExpression k i ds c fs =
     if passes_on f k ds then lone item.Nil ++ (lone item.Body ++ c (codes "body") way.PassOn)
     else c (codes "params") way.Whole ++ (lone item.Body ++ c (codes "body") way.Whole)
-opened_word f r k ds c fs = whole_word f r k ds c fs
+opened_word f r k i ds c fs = whole_word f r k i ds c fs
 
 -- In the body of such a constructor the call that passes it on is so read.
-abbrev pub passed_word : Known → Rule → Kind → Docs → OneField → AllFields → List Entry
-passed_word f rule.Bare k ds c fs = fs way.PassOn
-passed_word f rule.Statement k ds c fs =
-    if is_passing f k ds then lone item.PassOn else whole_word f rule.Statement k ds c fs
-passed_word f r k ds c fs = whole_word f r k ds c fs
+abbrev pub passed_word : Known → Rule → Kind → ℕ → Docs → OneField → AllFields → List Entry
+passed_word f rule.Bare k i ds c fs = fs way.PassOn
+passed_word f rule.Statement k i ds c fs =
+    if is_passing f k ds then lone item.PassOn else whole_word f rule.Statement k i ds c fs
+passed_word f r k i ds c fs = whole_word f r k i ds c fs
 
 -- A key that is a name, a text or a number computes nothing; in a sequence the last is the key.
-abbrev pub keyed_word : Known → Rule → Kind → Docs → OneField → AllFields → List Entry
-keyed_word f rule.Transparent k ds c fs = c (codes "expression") way.Keyed
-keyed_word f rule.Sequence k ds c fs =
+abbrev pub keyed_word : Known → Rule → Kind → ℕ → Docs → OneField → AllFields → List Entry
+keyed_word f rule.Transparent k i ds c fs = c (codes "expression") way.Keyed
+keyed_word f rule.Sequence k i ds c fs =
     if is_long k ds then c (codes "expressions") way.InTurnKeyed
-    else whole_word f rule.Sequence k ds c fs ++ lone item.Key
-keyed_word f rule.PropertyName k ds c fs = []
-keyed_word f (rule.Literal m) k ds c fs = []
-keyed_word f rule.PrivateName k ds c fs = []
-keyed_word f rule.Number k ds c fs = []
-keyed_word f r k ds c fs = whole_word f r k ds c fs ++ lone item.Key
+    else whole_word f rule.Sequence k i ds c fs ++ lone item.Key
+keyed_word f rule.PropertyName k i ds c fs = []
+keyed_word f (rule.Literal m) k i ds c fs = []
+keyed_word f rule.PrivateName k i ds c fs = []
+keyed_word f rule.Number k i ds c fs = []
+keyed_word f r k i ds c fs = whole_word f r k i ds c fs ++ lone item.Key
 
 -- Such a key is its own text; another key has none.
 abbrev pub key_text : Known → Rule → Kind → Docs → OneField → List Entry

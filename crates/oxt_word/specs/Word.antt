@@ -1,9 +1,10 @@
 -- The effect word of a document: what its code does, as a flat list of items.
 use Rattle.std.specs.Prelude.{ℕ, List, [], ◌∷◌, ◌++◌, if◌then◌else◌, Option, None, Some}
 use Rattle.std.specs.Str.{bytes_eq}
-use Rattle.oxt_facts.specs.Facts.{Known}
+use Rattle.oxt_facts.specs.Facts.{Known, group_here}
+use Rattle.oxt_facts.specs.Groups.{numbered_groups}
 use Rattle.oxt_facts.specs.Inside.{inside}
-use Rattle.oxt_facts.specs.Told.{Telling, block, member, bare, gone, listless, told_of}
+use Rattle.oxt_facts.specs.Told.{Telling, block, member, bare, inlined, gone, listless, told_of}
 use Rattle.oxt_grammar.specs.Field.{Field}
 use Rattle.oxt_grammar.specs.Rows.{row_of}
 use Rattle.oxt_grammar.specs.declared.kind.Kind.{Kind}
@@ -15,7 +16,7 @@ use Rattle.oxt_facts.specs.Tags.{numbered}
 use Rattle.oxt_put.specs.Details.{is_read}
 use Rattle.oxt_put.specs.Leaves.{dropped}
 use Rattle.oxt_word.specs.Node.{OneField, AllFields}
-use Rattle.oxt_word.specs.Enums.{bare_word, enum_word, is_exported, member_word}
+use Rattle.oxt_word.specs.Enums.{bare_word, enum_word, inlined_word, is_exported, member_word}
 use Rattle.oxt_word.specs.Erased.{is_gone, gone_word}
 use Rattle.oxt_word.specs.RuleOf.{rule_of}
 use Rattle.oxt_word.specs.Ways.{target_word, bound_word, exported_word, entered_word, opened_word, passed_word, keyed_word, key_text, keys_word, statics_word, fields_word, methods_word, constructor_word}
@@ -26,38 +27,39 @@ use Rattle.oxt_word.specs.declared.way.Way.{Way}
 use Rattle.oxt_word.specs.declared.way.Way.TheVariants as way
 
 -- what a node does, by the way in which it is read and its rule
-abbrev pub way_word : Known → Way → Rule → Kind → Docs → OneField → AllFields → List Entry
-way_word f way.Target r k ds c fs = target_word f r k ds c fs
-way_word f (way.Bound b x) r k ds c fs = bound_word f b x r k ds c fs
-way_word f way.Exported r k ds c fs = exported_word f r k ds c fs
-way_word f (way.Entered p) r k ds c fs = entered_word f p r k ds c fs
-way_word f way.Opened r k ds c fs = opened_word f r k ds c fs
-way_word f way.PassOn r k ds c fs = passed_word f r k ds c fs
-way_word f way.Keyed r k ds c fs = keyed_word f r k ds c fs
-way_word f way.KeyText r k ds c fs = key_text f r k ds c
-way_word f way.Keys r k ds c fs = keys_word r c fs
-way_word f way.Statics r k ds c fs = statics_word f r k ds c fs
-way_word f way.Fields r k ds c fs = fields_word f r k ds c fs
-way_word f way.Methods r k ds c fs = methods_word f r k ds c fs
-way_word f way.Constructor r k ds c fs = constructor_word f r k ds c fs
-way_word f w r k ds c fs = whole_word f r k ds c fs
+abbrev pub way_word : Known → Way → Rule → Kind → ℕ → Docs → OneField → AllFields → List Entry
+way_word f way.Target r k i ds c fs = target_word f r k i ds c fs
+way_word f (way.Bound b x) r k i ds c fs = bound_word f b x r k i ds c fs
+way_word f way.Exported r k i ds c fs = exported_word f r k i ds c fs
+way_word f (way.Entered p) r k i ds c fs = entered_word f p r k i ds c fs
+way_word f way.Opened r k i ds c fs = opened_word f r k i ds c fs
+way_word f way.PassOn r k i ds c fs = passed_word f r k i ds c fs
+way_word f way.Keyed r k i ds c fs = keyed_word f r k i ds c fs
+way_word f way.KeyText r k i ds c fs = key_text f r k ds c
+way_word f way.Keys r k i ds c fs = keys_word r c fs
+way_word f way.Statics r k i ds c fs = statics_word f r k ds c fs
+way_word f way.Fields r k i ds c fs = fields_word f r k ds c fs
+way_word f way.Methods r k i ds c fs = methods_word f r k ds c fs
+way_word f way.Constructor r k i ds c fs = constructor_word f r k ds c fs
+way_word f w r k i ds c fs = whole_word f r k i ds c fs
 
 -- the same, unless the node is erased
-abbrev pub own_word : Known → Way → Rule → Kind → Docs → OneField → AllFields → List Entry
-own_word f w r k ds c fs = if is_gone r k ds then gone_word w else way_word f w r k ds c fs
+abbrev pub own_word : Known → Way → Rule → Kind → ℕ → Docs → OneField → AllFields → List Entry
+own_word f w r k i ds c fs = if is_gone r k ds then gone_word w else way_word f w r k i ds c fs
 
 -- What is told of a node goes before its own rule.
-abbrev pub told_word : Known → Option Telling → Way → Rule → Kind → Docs → OneField → AllFields → List Entry
-told_word f None w r k ds c fs = own_word f w r k ds c fs
-told_word f (Some (block b)) w r k ds c fs = enum_word b (is_exported w) c
-told_word f (Some (member m)) w r k ds c fs = member_word m c
-told_word f (Some (bare e)) w r k ds c fs = bare_word e w ds
-told_word f (Some gone) w r k ds c fs = gone_word w
-told_word f (Some listless) w r k ds c fs = listless_word k ds c
+abbrev pub told_word : Known → Option Telling → Way → Rule → Kind → ℕ → Docs → OneField → AllFields → List Entry
+told_word f None w r k i ds c fs = own_word f w r k i ds c fs
+told_word f (Some (block b)) w r k i ds c fs = enum_word b (is_exported w) c
+told_word f (Some (member m)) w r k i ds c fs = member_word m c
+told_word f (Some (bare e g)) w r k i ds c fs = bare_word e (group_here f g) w ds
+told_word f (Some (inlined v)) w r k i ds c fs = inlined_word v w
+told_word f (Some gone) w r k i ds c fs = gone_word w
+told_word f (Some listless) w r k i ds c fs = listless_word k ds c
 
 -- the same of the node of that number
-abbrev pub node_word : Known → ℕ → Way → Rule → Kind → Docs → OneField → AllFields → List Entry
-node_word f i w r k ds c fs = told_word f (told_of f.told i) w r k ds c fs
+abbrev pub node_word : Known → Way → Rule → Kind → ℕ → Docs → OneField → AllFields → List Entry
+node_word f w r k i ds c fs = told_word f (told_of f.told i) w r k i ds c fs
 
 -- what the elements of a list do, in order: read so, in turn, or the last alone
 abbrev pub list_word : Way → AllFields → AllFields → AllFields → List Entry
@@ -85,8 +87,8 @@ abbrev mutual
   said f (text t) w = []
   said f (list ds) w = list_word w (each_said f ds) (turns_said f ds) (last_said f ds)
   said f (node k i b e ds) w =
-      node_word (inside f k ds) i w (rule_of k) k ds
-      (field_said (inside f k ds) ds (row_of k)) (fields_said (inside f k ds) ds (row_of k))
+      node_word (inside f i k ds) w (rule_of k) k i ds
+      (field_said (inside f i k ds) ds (row_of k)) (fields_said (inside f i k ds) ds (row_of k))
 
   pub each_said : Known → Docs → Way → List Entry
   each_said f no_docs w = []
@@ -121,6 +123,6 @@ each_field f n = field_said f (docs_in n.parts.items) (row_of n.kind)
 abbrev pub all_fields : Known → Node → AllFields
 all_fields f n = fields_said f (docs_in n.parts.items) (row_of n.kind)
 
--- the effect word, where that is known of names
+-- the effect word, where that is known of names, with its made names and its groups numbered
 abbrev pub word : Known → Doc → List Entry
-word f d = numbered [] (said f d way.Whole)
+word f d = numbered_groups (numbered [] (said f d way.Whole))

@@ -83,7 +83,7 @@ pub(crate) fn put_opened(
     out: &mut Vec<Item>,
 ) -> Result<(), OutOfMemory>
     ensures { OnOk result (entries out.new.items
-        ≡ entries out.old.items ++ opened_word facts.now rule node.now.kind (docs_in node.now.parts.items)
+        ≡ entries out.old.items ++ opened_word facts.now rule node.now.kind node.now.id.0 (docs_in node.now.parts.items)
         (each_field facts.now node.now) (all_fields facts.now node.now)) }
 {
     match rule {
@@ -100,7 +100,7 @@ fn put_constructor_function(
     out: &mut Vec<Item>,
 ) -> Result<(), OutOfMemory>
     ensures { OnOk result (entries out.new.items
-        ≡ entries out.old.items ++ opened_word facts.now Rule.FunctionExpression node.now.kind
+        ≡ entries out.old.items ++ opened_word facts.now Rule.FunctionExpression node.now.kind node.now.id.0
         (docs_in node.now.parts.items) (each_field facts.now node.now) (all_fields facts.now node.now)) }
 {
     if passes_on(facts, node) {
@@ -122,7 +122,7 @@ pub(crate) fn put_passed(
     out: &mut Vec<Item>,
 ) -> Result<(), OutOfMemory>
     ensures { OnOk result (entries out.new.items
-        ≡ entries out.old.items ++ passed_word facts.now rule node.now.kind (docs_in node.now.parts.items)
+        ≡ entries out.old.items ++ passed_word facts.now rule node.now.kind node.now.id.0 (docs_in node.now.parts.items)
         (each_field facts.now node.now) (all_fields facts.now node.now)) }
 {
     match rule {
@@ -145,7 +145,7 @@ pub(crate) fn put_keyed(
     out: &mut Vec<Item>,
 ) -> Result<(), OutOfMemory>
     ensures { OnOk result (entries out.new.items
-        ≡ entries out.old.items ++ keyed_word facts.now rule node.now.kind (docs_in node.now.parts.items)
+        ≡ entries out.old.items ++ keyed_word facts.now rule node.now.kind node.now.id.0 (docs_in node.now.parts.items)
         (each_field facts.now node.now) (all_fields facts.now node.now)) }
 {
     match rule {

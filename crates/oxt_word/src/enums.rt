@@ -1,12 +1,13 @@
-//! The effect word of a block of an enum, of its members and of the bare names of members.
-ghost use Rattle.std.specs.Prelude.{◌≡◌, ◌∷◌, [], ◌++◌, OnOk};
+//! The effect word of a block of an enum, of its members, of the bare names of members and of what is inlined.
+ghost use Rattle.std.specs.Prelude.{◌≡◌, ◌∷◌, [], ◌++◌, OnOk, Some};
 ghost use Rattle.oxt_facts.specs.Told.{block_view, member_view, value_view};
-ghost use Rattle.oxt_facts.specs.Entry.{atom_doc, detailed, entries, lone, spelled};
+ghost use Rattle.oxt_facts.specs.Entry.{atom_doc, entries, lone, owned, spelled};
+ghost use Rattle.oxt_facts.specs.Facts.{group_here};
 ghost use Rattle.oxt_names.specs.Constant.{constant_view};
 ghost use Rattle.oxt_tree.specs.Doc.{flag, text};
 ghost use Rattle.oxt_tree.specs.Names.{name_bytes};
 ghost use Rattle.oxt_tree.specs.View.{docs_in};
-ghost use Rattle.oxt_word.specs.Enums.{bare_word, block_binding, enum_word, filling_word, following_word, is_exported, is_var, literal_word, member_word, number_literal, object_of, put_word, read_word, return_word, use_word, value_word};
+ghost use Rattle.oxt_word.specs.Enums.{bare_word, block_binding, enum_word, filling_word, following_word, inlined_word, is_exported, is_key, is_var, literal_word, member_word, number_literal, object_of, owner_word, put_word, read_word, return_word, use_word, value_word};
 ghost use Rattle.oxt_put.specs.Details.{start};
 ghost use Rattle.oxt_word.specs.Word.{each_field};
 
@@ -17,7 +18,7 @@ use oxt_facts::item::{Atom, Binding, Item, ItemKind};
 use oxt_facts::told::{MemberValue, ToldBlock, ToldMember};
 use oxt_grammar::kind::Kind;
 use oxt_names::constant::ConstantValue;
-use oxt_put::put::{first_atom, put_detailed, put_lone, put_spelled, put_start};
+use oxt_put::put::{first_atom, put_lone, put_owned, put_spelled, put_start};
 use oxt_tree::ids::OutOfMemory;
 use oxt_tree::name::Name;
 use oxt_tree::tree::Node;
@@ -59,7 +60,7 @@ pub(crate) fn put_enum(
         );
     }
     put_operation(facts.memory(), Kind::AssignmentExpression, "=", out)?;
-    put_use(facts.memory(), &block.name, out)?;
+    put_use(facts.memory(), &block.name, block.group, out)?;
     put_filling(facts, block, exported, node, out)?;
     put_lone(facts.memory(), ItemKind::Close, out)?;
     put_lone(facts.memory(), ItemKind::Eval, out)
@@ -99,7 +100,7 @@ fn put_filling(
     put_object_of(facts.memory(), block, exported, out)?;
     put_entry_of(facts.memory(), block, out)?;
     put_field(facts, node, "body", Way::Whole, out)?;
-    put_return(facts.memory(), &block.name, out)?;
+    put_return(facts.memory(), block, out)?;
     put_lone(facts.memory(), ItemKind::Out, out)
 }
 
@@ -116,26 +117,27 @@ fn put_object_of(
     if block.is_first && !is_var(block, exported) {
         return put_lone(alloc, ItemKind::New, out);
     }
-    put_use(alloc, &block.name, out)?;
+    put_use(alloc, &block.name, block.group, out)?;
     put_lone(alloc, ItemKind::Found, out)
 }
 
 /// Puts the entry into the function that fills it.
 fn put_entry_of(alloc: Global, block: &ToldBlock, out: &mut Vec<Item>) -> Result<(), OutOfMemory>
     ensures { OnOk result (entries out.new.items ≡ entries out.old.items
-        ++ detailed ItemKind.In (text (name_bytes block.now.name)) (flag block.now.is_pure ∷ [])) }
+        ++ owned (Some block.now.node) ItemKind.In (text (name_bytes block.now.name)) (flag block.now.is_pure ∷ [])) }
 {
     let details = vec![in alloc; Atom::Flag(block.is_pure)]?;
-    put_detailed(ItemKind::In, Atom::Text(block.name.share()?), details, out)
+    let name = Atom::Text(block.name.share()?);
+    put_owned(Some(block.node), ItemKind::In, name, details, out)
 }
 
-/// Puts the return of the name.
-fn put_return(alloc: Global, name: &Name, out: &mut Vec<Item>) -> Result<(), OutOfMemory>
+/// Puts the return of the name, which is the parameter of the block's function.
+fn put_return(alloc: Global, block: &ToldBlock, out: &mut Vec<Item>) -> Result<(), OutOfMemory>
     ensures { OnOk result (entries out.new.items
-        ≡ entries out.old.items ++ return_word (name_bytes name.now)) }
+        ≡ entries out.old.items ++ return_word (block_view block.now)) }
 {
     put_start(Kind::ReturnStatement, Vec::new(alloc), out)?;
-    put_use(alloc, name, out)?;
+    put_use(alloc, &block.name, Some(block.node), out)?;
     put_lone(alloc, ItemKind::Close, out)
 }
 
@@ -153,12 +155,26 @@ fn put_operation(
     put_start(kind, details, out)
 }
 
-/// Puts the use of the name.
-fn put_use(alloc: Global, name: &Name, out: &mut Vec<Item>) -> Result<(), OutOfMemory>
+/// Puts the use of the name, which means that group.
+fn put_use(
+    alloc: Global,
+    name: &Name,
+    group: Option<u64>,
+    out: &mut Vec<Item>,
+) -> Result<(), OutOfMemory>
     ensures { OnOk result (entries out.new.items
-        ≡ entries out.old.items ++ use_word (name_bytes name.now)) }
+        ≡ entries out.old.items ++ use_word (name_bytes name.now) group) }
 {
-    put_spelled(alloc, ItemKind::Name, Atom::Text(name.share()?), out)
+    let name = Atom::Text(name.share()?);
+    put_owned(group, ItemKind::Name, name, Vec::new(alloc), out)
+}
+
+/// Puts the use of the enum's own name inside the function of the member's block.
+fn put_owner(alloc: Global, member: &ToldMember, out: &mut Vec<Item>) -> Result<(), OutOfMemory>
+    ensures { OnOk result (entries out.new.items
+        ≡ entries out.old.items ++ owner_word (member_view member.now)) }
+{
+    put_use(alloc, &member.owner, Some(member.block), out)
 }
 
 /// Puts a member of an enum.
@@ -174,7 +190,7 @@ pub(crate) fn put_member(
         ++ member_word (member_view member.now) (each_field facts.now node.now)) }
 {
     if member.is_reversed {
-        put_use(facts.memory(), &member.owner, out)?;
+        put_owner(facts.memory(), member, out)?;
         put_value_put(facts, member, node, out)?;
         put_text(facts.memory(), &member.name, out)?;
         put_lone(facts.memory(), ItemKind::Put, out)?;
@@ -195,7 +211,7 @@ fn put_value_put(
     ensures { OnOk result (entries out.new.items
         ≡ entries out.old.items ++ put_word (member_view member.now) (each_field facts.now node.now)) }
 {
-    put_use(facts.memory(), &member.owner, out)?;
+    put_owner(facts.memory(), member, out)?;
     put_text(facts.memory(), &member.name, out)?;
     put_value(facts, member, node, out)?;
     put_lone(facts.memory(), ItemKind::Put, out)
@@ -218,11 +234,11 @@ fn put_value(
     out: &mut Vec<Item>,
 ) -> Result<(), OutOfMemory>
     ensures { OnOk result (entries out.new.items ≡ entries out.old.items
-        ++ value_word (name_bytes member.now.owner) (value_view member.now.value) (each_field facts.now node.now)) }
+        ++ value_word (member_view member.now) (value_view member.now.value) (each_field facts.now node.now)) }
 {
     match &member.value {
         MemberValue::Constant(constant) => put_literal(facts.memory(), constant, out),
-        MemberValue::Following(name) => put_following(facts.memory(), &member.owner, name, out),
+        MemberValue::Following(name) => put_following(facts.memory(), member, name, out),
         MemberValue::Written => put_field(facts, node, "initializer", Way::Whole, out),
     }
 }
@@ -258,46 +274,92 @@ fn put_number_literal(alloc: Global, number: i64, out: &mut Vec<Item>) -> Result
 /// Puts one more than the member of that name.
 fn put_following(
     alloc: Global,
-    owner: &Name,
+    member: &ToldMember,
     name: &Name,
     out: &mut Vec<Item>,
 ) -> Result<(), OutOfMemory>
     ensures { OnOk result (entries out.new.items
-        ≡ entries out.old.items ++ following_word (name_bytes owner.now) (name_bytes name.now)) }
+        ≡ entries out.old.items ++ following_word (name_bytes member.now.owner) (Some member.now.block) (name_bytes name.now)) }
 {
     put_operation(alloc, Kind::BinaryExpression, "+", out)?;
     put_spelled(alloc, ItemKind::Num, Atom::Number(1), out)?;
-    put_read(alloc, owner, Atom::Text(name.share()?), out)?;
+    put_read(
+        alloc,
+        &member.owner,
+        Some(member.block),
+        Atom::Text(name.share()?),
+        out,
+    )?;
     put_lone(alloc, ItemKind::Close, out)
 }
 
 /// Puts a read of the member of that name.
-fn put_read(alloc: Global, owner: &Name, name: Atom, out: &mut Vec<Item>) -> Result<(), OutOfMemory>
+fn put_read(
+    alloc: Global,
+    owner: &Name,
+    group: Option<u64>,
+    name: Atom,
+    out: &mut Vec<Item>,
+) -> Result<(), OutOfMemory>
     ensures { OnOk result (entries out.new.items
-        ≡ entries out.old.items ++ read_word (name_bytes owner.now) (atom_doc name)) }
+        ≡ entries out.old.items ++ read_word (name_bytes owner.now) group (atom_doc name)) }
 {
-    put_use(alloc, owner, out)?;
+    put_use(alloc, owner, group, out)?;
     put_spelled(alloc, ItemKind::Str, name, out)?;
     put_spelled(alloc, ItemKind::Get, Atom::Flag(false), out)
 }
 
-/// Puts a bare name of a member of the enum of that name.
+/// Puts a bare name of a member of the enum of that name, which has that group.
 pub(crate) fn put_bare(
-    alloc: Global,
+    facts: &Facts,
     owner: &Name,
+    group: Option<u64>,
     way: Way,
     node: &Node,
     out: &mut Vec<Item>,
 ) -> Result<(), OutOfMemory>
     ensures { OnOk result (entries out.new.items
-        ≡ entries out.old.items ++ bare_word (name_bytes owner.now) way (docs_in node.now.parts.items)) }
+        ≡ entries out.old.items
+        ++ bare_word (name_bytes owner.now) (group_here facts.now group) way (docs_in node.now.parts.items)) }
 {
+    let group = facts.group_here(group);
     match way {
         Way::KeyText => Ok(()),
         Way::Keyed => {
-            put_read(alloc, owner, first_atom(node)?, out)?;
+            put_read(facts.memory(), owner, group, first_atom(node)?, out)?;
+            put_lone(facts.memory(), ItemKind::Key, out)
+        }
+        _ => put_read(facts.memory(), owner, group, first_atom(node)?, out),
+    }
+}
+
+/// Puts what is inlined: the literal of its constant, also as a key.
+pub(crate) fn put_inlined(
+    alloc: Global,
+    constant: &ConstantValue,
+    way: Way,
+    out: &mut Vec<Item>,
+) -> Result<(), OutOfMemory>
+    ensures { OnOk result (entries out.new.items
+        ≡ entries out.old.items ++ inlined_word (constant_view constant.now) way) }
+{
+    match way {
+        Way::Keyed if is_key(constant) => Ok(()),
+        Way::Keyed => {
+            put_literal(alloc, constant, out)?;
             put_lone(alloc, ItemKind::Key, out)
         }
-        _ => put_read(alloc, owner, first_atom(node)?, out),
+        Way::KeyText if !is_key(constant) => Ok(()),
+        _ => put_literal(alloc, constant, out),
+    }
+}
+
+/// Whether the literal of the constant is a key by itself.
+fn is_key(constant: &ConstantValue) -> bool
+    ensures { result ≡ is_key (constant_view constant.now) }
+{
+    match constant {
+        ConstantValue::Number(number) => *number >= 0,
+        ConstantValue::Text(_) => true,
     }
 }

@@ -15,12 +15,13 @@ use crate::class::{
     put_class, put_class_expression, put_constructor, put_instance_fields, put_key_text, put_keyed,
     put_keys, put_methods, put_opened, put_passed, put_statics,
 };
-use crate::enums::{is_exported, put_bare, put_enum, put_member};
+use crate::enums::{is_exported, put_bare, put_enum, put_inlined, put_member};
 use crate::gone::{is_gone, put_gone};
 use crate::rule::Rule;
 use crate::rule_of::rule_of;
 use crate::way::Way;
 use oxt_facts::facts::Facts;
+use oxt_facts::groups::number_groups;
 use oxt_facts::inside::inside;
 use oxt_facts::item::{Atom, Binding, Item, ItemKind};
 use oxt_facts::tags::number_tags;
@@ -51,6 +52,7 @@ pub fn word_of(facts: &Facts, program: &Node) -> Result<Vec<Item>, OutOfMemory>
     let mut items = Vec::new(facts.memory());
     put_node(facts, program, Way::Whole, &mut items)?;
     number_tags(facts.memory(), &mut items)?;
+    number_groups(facts.memory(), &mut items)?;
     Ok(items)
 }
 
@@ -73,14 +75,15 @@ fn put_node(facts: &Facts, node: &Node, way: Way, out: &mut Vec<Item>) -> Result
 #[cycle(word)]
 fn put_known(facts: &Facts, node: &Node, way: Way, out: &mut Vec<Item>) -> Result<(), OutOfMemory>
     ensures { OnOk result (entries out.new.items
-        ≡ entries out.old.items ++ node_word facts.now node.now.id.0 way (rule_of node.now.kind) node.now.kind
+        ≡ entries out.old.items ++ node_word facts.now way (rule_of node.now.kind) node.now.kind node.now.id.0
         (docs_in node.now.parts.items) (each_field facts.now node.now) (all_fields facts.now node.now)) }
 {
     match facts.told_of(node.id) {
         None => put_own(facts, way, node, out),
         Some(Told::Block(block)) => put_enum(facts, block, is_exported(way), node, out),
         Some(Told::Member(member)) => put_member(facts, member, node, out),
-        Some(Told::Bare(owner)) => put_bare(facts.memory(), owner, way, node, out),
+        Some(Told::Bare(owner, group)) => put_bare(facts, owner, *group, way, node, out),
+        Some(Told::Inlined(constant)) => put_inlined(facts.memory(), constant, way, out),
         Some(Told::Gone) => put_gone(facts.memory(), way, out),
         Some(Told::Listless) => put_listless(facts, node, out),
     }
@@ -90,7 +93,7 @@ fn put_known(facts: &Facts, node: &Node, way: Way, out: &mut Vec<Item>) -> Resul
 #[cycle(word)]
 fn put_own(facts: &Facts, way: Way, node: &Node, out: &mut Vec<Item>) -> Result<(), OutOfMemory>
     ensures { OnOk result (entries out.new.items
-        ≡ entries out.old.items ++ own_word facts.now way (rule_of node.now.kind) node.now.kind
+        ≡ entries out.old.items ++ own_word facts.now way (rule_of node.now.kind) node.now.kind node.now.id.0
         (docs_in node.now.parts.items) (each_field facts.now node.now) (all_fields facts.now node.now)) }
 {
     let rule = rule_of(node.kind);
@@ -111,7 +114,7 @@ fn put_way(
     out: &mut Vec<Item>,
 ) -> Result<(), OutOfMemory>
     ensures { OnOk result (entries out.new.items
-        ≡ entries out.old.items ++ way_word facts.now way rule node.now.kind
+        ≡ entries out.old.items ++ way_word facts.now way rule node.now.kind node.now.id.0
         (docs_in node.now.parts.items) (each_field facts.now node.now) (all_fields facts.now node.now)) }
 {
     match way {
@@ -317,7 +320,7 @@ pub(crate) fn put_whole(
     out: &mut Vec<Item>,
 ) -> Result<(), OutOfMemory>
     ensures { OnOk result (entries out.new.items
-        ≡ entries out.old.items ++ whole_word facts.now rule node.now.kind (docs_in node.now.parts.items)
+        ≡ entries out.old.items ++ whole_word facts.now rule node.now.kind node.now.id.0 (docs_in node.now.parts.items)
         (each_field facts.now node.now) (all_fields facts.now node.now)) }
 {
     match rule {
@@ -361,7 +364,7 @@ pub(crate) fn put_whole(
 #[cycle(word)]
 fn put_program(facts: &Facts, node: &Node, out: &mut Vec<Item>) -> Result<(), OutOfMemory>
     ensures { OnOk result (entries out.new.items
-        ≡ entries out.old.items ++ whole_word facts.now Rule.Program node.now.kind
+        ≡ entries out.old.items ++ whole_word facts.now Rule.Program node.now.kind node.now.id.0
         (docs_in node.now.parts.items) (each_field facts.now node.now) (all_fields facts.now node.now)) }
 {
     if facts.is_source() && node.holds_text("lang", "dts") {
@@ -376,7 +379,7 @@ fn put_program(facts: &Facts, node: &Node, out: &mut Vec<Item>) -> Result<(), Ou
 #[tactic(auto, using(oxt_put::proofs::Drops::behind))]
 fn put_statement(facts: &Facts, node: &Node, out: &mut Vec<Item>) -> Result<(), OutOfMemory>
     ensures { OnOk result (entries out.new.items
-        ≡ entries out.old.items ++ whole_word facts.now Rule.Statement node.now.kind
+        ≡ entries out.old.items ++ whole_word facts.now Rule.Statement node.now.kind node.now.id.0
         (docs_in node.now.parts.items) (each_field facts.now node.now) (all_fields facts.now node.now)) }
 {
     let from = out.len();
@@ -649,7 +652,7 @@ fn put_exported(
     out: &mut Vec<Item>,
 ) -> Result<(), OutOfMemory>
     ensures { OnOk result (entries out.new.items
-        ≡ entries out.old.items ++ exported_word facts.now rule node.now.kind (docs_in node.now.parts.items)
+        ≡ entries out.old.items ++ exported_word facts.now rule node.now.kind node.now.id.0 (docs_in node.now.parts.items)
         (each_field facts.now node.now) (all_fields facts.now node.now)) }
 {
     match rule {
@@ -669,7 +672,7 @@ fn put_target(
     out: &mut Vec<Item>,
 ) -> Result<(), OutOfMemory>
     ensures { OnOk result (entries out.new.items
-        ≡ entries out.old.items ++ target_word facts.now rule node.now.kind (docs_in node.now.parts.items)
+        ≡ entries out.old.items ++ target_word facts.now rule node.now.kind node.now.id.0 (docs_in node.now.parts.items)
         (each_field facts.now node.now) (all_fields facts.now node.now)) }
 {
     match rule {
@@ -709,7 +712,7 @@ fn put_bound(
     out: &mut Vec<Item>,
 ) -> Result<(), OutOfMemory>
     ensures { OnOk result (entries out.new.items
-        ≡ entries out.old.items ++ bound_word facts.now binding exported rule node.now.kind
+        ≡ entries out.old.items ++ bound_word facts.now binding exported rule node.now.kind node.now.id.0
         (docs_in node.now.parts.items) (each_field facts.now node.now) (all_fields facts.now node.now)) }
 {
     match rule {
@@ -730,7 +733,7 @@ fn put_entered(
     out: &mut Vec<Item>,
 ) -> Result<(), OutOfMemory>
     ensures { OnOk result (entries out.new.items
-        ≡ entries out.old.items ++ entered_word facts.now pure rule node.now.kind
+        ≡ entries out.old.items ++ entered_word facts.now pure rule node.now.kind node.now.id.0
         (docs_in node.now.parts.items) (each_field facts.now node.now) (all_fields facts.now node.now)) }
 {
     match rule {
@@ -747,7 +750,7 @@ fn put_entered(
 #[cycle(word)]
 fn put_entry(facts: &Facts, pure: bool, node: &Node, out: &mut Vec<Item>) -> Result<(), OutOfMemory>
     ensures { OnOk result (entries out.new.items
-        ≡ entries out.old.items ++ entered_word facts.now pure Rule.FunctionExpression node.now.kind
+        ≡ entries out.old.items ++ entered_word facts.now pure Rule.FunctionExpression node.now.kind node.now.id.0
         (docs_in node.now.parts.items) (each_field facts.now node.now) (all_fields facts.now node.now)) }
 {
     put_field(facts, node, "params", Way::Entered(pure), out)?;

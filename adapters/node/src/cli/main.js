@@ -34,8 +34,8 @@ Flags of oxt, as it takes them:
   --no-namespaces                namespaces with values are complained of
   --no-declare-fields            fields without value go
   --remove-empty-fields          fields without value go
-  --optimize-const-enums         members of 'const enum' become their constants
-  --optimize-enums               members of all enums become their constants
+  --optimize-const-enums         members of a 'const enum' become their constants
+  --optimize-enums               members of other enums become their constants
   --rewrite-extensions WORD      true, false, rewrite or remove
   --legacy                       decorators as TypeScript had them
   --emit-decorator-metadata

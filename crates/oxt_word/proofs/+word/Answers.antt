@@ -10,12 +10,12 @@ use Rattle.oxt_word.proofs.+word.Goals as goal
 pub word::put_node-returns-in-Some : goal.word::put_node-returns-in-Some
 word::put_node-returns-in-Some t c =
     let same = ap (known_or c.args.facts.now) (sym c.in-Some.is) ∙ c.in_ok-inner.ensures in
-    subst (λ f. OnOk c.put_known.result (entries c.put_known.new.out.items ≡ entries c.args.out.now.items ++ node_word f c.args.node.now.id.0 c.args.way (rule_of c.args.node.now.kind) c.args.node.now.kind (docs_in c.args.node.now.parts.items) (each_field f c.args.node.now) (all_fields f c.args.node.now))) same c.put_known.ensures
+    subst (λ f. OnOk c.put_known.result (entries c.put_known.new.out.items ≡ entries c.args.out.now.items ++ node_word f c.args.way (rule_of c.args.node.now.kind) c.args.node.now.kind c.args.node.now.id.0 (docs_in c.args.node.now.parts.items) (each_field f c.args.node.now) (all_fields f c.args.node.now))) same c.put_known.ensures
 
 pub word::put_node-returns-in-None : goal.word::put_node-returns-in-None
 word::put_node-returns-in-None t c =
     let same = ap (known_or c.args.facts.now) (sym c.in-None.is) ∙ c.in_ok-inner.ensures in
-    subst (λ f. OnOk c.put_known-in-None.result (entries c.put_known-in-None.new.out.items ≡ entries c.args.out.now.items ++ node_word f c.args.node.now.id.0 c.args.way (rule_of c.args.node.now.kind) c.args.node.now.kind (docs_in c.args.node.now.parts.items) (each_field f c.args.node.now) (all_fields f c.args.node.now))) same c.put_known-in-None.ensures
+    subst (λ f. OnOk c.put_known-in-None.result (entries c.put_known-in-None.new.out.items ≡ entries c.args.out.now.items ++ node_word f c.args.way (rule_of c.args.node.now.kind) c.args.node.now.kind c.args.node.now.id.0 (docs_in c.args.node.now.parts.items) (each_field f c.args.node.now) (all_fields f c.args.node.now))) same c.put_known-in-None.ensures
 
 pub word::put_field-returns-in-Some-get : goal.word::put_field-returns-in-Some-get
 word::put_field-returns-in-Some-get t c =

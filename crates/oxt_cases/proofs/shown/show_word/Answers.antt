@@ -10,7 +10,7 @@ use Rattle.oxt_cases.proofs.shown.show_word.Goals as goal
 
 pub returns-in-Ok-write_all-clause-shown : goal.returns-in-Ok-write_all-clause-shown
 returns-in-Ok-write_all-clause-shown g c =
-    let same = c.as_slice-3.ensures.value ∙ c.in_ok-lines.ensures ∙ ap (λ xs. lines (entries xs)) c.as_slice-2.ensures.value ∙ ap lines c.in_ok-items.ensures ∙ ap (λ f. lines (word f (node_doc c.in-Ok-read_tree.program.root))) c.of_source.ensures in
+    let same = c.as_slice-3.ensures.value ∙ c.in_ok-lines.ensures ∙ ap (λ xs. lines (entries xs)) c.as_slice-2.ensures.value ∙ ap lines c.in_ok-items.ensures ∙ ap (λ f. lines (word f (node_doc c.in-Ok-read_tree.program.root))) c.in_ok-facts.ensures in
     record {
       bytes = c.in-Ok.bytes.items;
       source = node_doc c.in-Ok-read_tree.program.root;

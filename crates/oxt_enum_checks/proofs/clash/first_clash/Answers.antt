@@ -3,6 +3,7 @@ use Rattle.std.proofs.Common.{ap, option_map}
 use Rattle.oxt_tree.specs.View.{node_doc}
 use Rattle.oxt_enum_checks.specs.Clash.{clash_by}
 use Rattle.oxt_enum_checks.specs.Places.{Placed, places_in, places_of}
+use Rattle.oxt_enum_checks.proofs.Blockless.{no_clash}
 use Rattle.oxt_enum_checks.proofs.Names.{ok_same}
 use Rattle.oxt_enum_checks.proofs.clash.first_clash.Goals as goal
 
@@ -11,3 +12,7 @@ returns c =
     let d = node_doc c.args.program.now in
     let by = λ (p : Placed). clash_by p c.args.scoping.now d in
     ok_same c.clash_by.result (option_map (λ node. node.0)) (by (places_in c.in_ok-places.places)) (by (places_of d)) (ap by c.in_ok-places.ensures) c.clash_by.ensures
+
+pub returns-then-not-has_blocks : goal.returns-then-not-has_blocks
+returns-then-not-has_blocks c =
+    no_clash c.args.scoping.now (node_doc c.args.program.now) c.has_blocks.result c.has_blocks.ensures c.if-not-has_blocks.true

@@ -8,5 +8,5 @@ use Rattle.oxt_modules.proofs.kept.push_specifiers.Given as goal
 
 abbrev pub invariant-loop-part : goal.invariant-loop-part
 invariant-loop-part l =
-    numbers_in l.initial.out.items ++ kept_in_list l.scoping (typescript_view l.options) l.jsx l.place (docs_in l.parts)
-    ≡ numbers_in l.out.items ++ kept_in_list l.scoping (typescript_view l.options) l.jsx l.place (docs_in (drop l.part-index l.parts))
+    numbers_in l.initial.out.items ++ kept_in_list l.symbols.scoping.now (typescript_view l.options) l.jsx l.place (docs_in l.parts)
+    ≡ numbers_in l.out.items ++ kept_in_list l.symbols.scoping.now (typescript_view l.options) l.jsx l.place (docs_in (drop l.part-index l.parts))

@@ -8,5 +8,5 @@ use Rattle.oxt_modules.proofs.kept.push_statements.Given as goal
 
 abbrev pub invariant-loop-part : goal.invariant-loop-part
 invariant-loop-part l =
-    numbers_in l.initial.out.items ++ kept_in_statements l.scoping (typescript_view l.options) l.jsx (docs_in l.parts)
-    ≡ numbers_in l.out.items ++ kept_in_statements l.scoping (typescript_view l.options) l.jsx (docs_in (drop l.part-index l.parts))
+    numbers_in l.initial.out.items ++ kept_in_statements l.symbols.scoping.now (typescript_view l.options) l.jsx (docs_in l.parts)
+    ≡ numbers_in l.out.items ++ kept_in_statements l.symbols.scoping.now (typescript_view l.options) l.jsx (docs_in (drop l.part-index l.parts))

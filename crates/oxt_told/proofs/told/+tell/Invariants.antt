@@ -1,8 +1,8 @@
 -- What is told so far, and then of what stands in the parts that are left.
 use Rattle.std.proofs.Common.{◌≡◌, drop}
-use Rattle.oxt_told.specs.Source.{all_told, told_in_each}
+use Rattle.oxt_told.specs.Source.{all_told, asked_of, told_in_each}
 use Rattle.oxt_tree.specs.View.{docs_in}
 use Rattle.oxt_told.proofs.told.+tell.Given as goal
 
 abbrev pub invariant-tell_in_each-loop-part : goal.invariant-tell_in_each-loop-part
-invariant-tell_in_each-loop-part l = all_told l.initial.told (told_in_each l.scoping l.plan.first (docs_in l.parts)) ≡ all_told l.told (told_in_each l.scoping l.plan.first (docs_in (drop l.part-index l.parts)))
+invariant-tell_in_each-loop-part l = all_told l.initial.told (told_in_each l.scoping (asked_of l.plan) (docs_in l.parts)) ≡ all_told l.told (told_in_each l.scoping (asked_of l.plan) (docs_in (drop l.part-index l.parts)))

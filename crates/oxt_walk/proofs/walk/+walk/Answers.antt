@@ -6,7 +6,7 @@ use Rattle.oxt_tree.specs.View.{docs_in, node_doc}
 use Rattle.oxt_walk.proofs.Closing.{expression_untouched, statements_untouched}
 use Rattle.oxt_walk.proofs.Steps.{level_on, list_untouched, node_untouched, on_ok, on_ok_2, on_ok_3, part_untouched, untouched_on, untouched_under, watched_as, watched_inside, watched_on}
 use Rattle.oxt_walk.proofs.Visiting.{elements_more, fields_more, fields_none, node_logged, same_list, statements_logged}
-use Rattle.oxt_walk.specs.Visited.{visits, visits_each}
+use Rattle.oxt_walk.specs.Visited.{of_statements, visits, visits_each}
 use Rattle.oxt_walk.specs.Watched.{IsWatched}
 use Rattle.oxt_walk.proofs.walk.+walk.Goals as goal
 
@@ -37,10 +37,13 @@ pub walk_node-returns-clause-untouched : goal.walk_node-returns-clause-untouched
 walk_node-returns-clause-untouched g t c =
     on_ok c.leave_node.result (λ left. node_untouched g.T.Traverse.watches _ _ _ _ _ _ _ _ _ _ c.in_ok-enter_node.ensures.untouched c.go_into.ensures.injector c.go_into.ensures.declarations c.in_ok-walk_fields.ensures.untouched c.go_out.ensures.injector c.go_out.ensures.declarations left) c.leave_node.ensures.untouched
 
+pub walk_opened-returns-clause-untouched : goal.walk_opened-returns-clause-untouched
+walk_opened-returns-clause-untouched g t c =
+    on_ok c.exit_statements.result (λ ran. list_untouched g.T.Traverse.watches _ _ _ _ _ _ _ _ c.in_ok-enter_statements.ensures.untouched c.in_ok-walk_elements.ensures.untouched ran.untouched) c.exit_statements.ensures
+
 pub walk_statements-returns-clause-untouched : goal.walk_statements-returns-clause-untouched
 walk_statements-returns-clause-untouched g t c =
-    let inside = list_untouched g.T.Traverse.watches _ _ _ _ _ _ _ _ c.in_ok-enter_statements.ensures.untouched c.in_ok-walk_elements.ensures.untouched c.in_ok-exit_statements.ensures.untouched in
-    on_ok_3 c.close_statements.result (λ closed waited popped. statements_untouched g.T.Traverse.watches c.args.is_program_body _ _ _ _ _ _ c.exit_statements.new.statements.items c.close_statements.new.statements.items c.open_list.ensures.injector c.in_ok-open_list.ensures.opened inside closed waited popped) c.close_statements.ensures.closed c.close_statements.ensures.waiting c.close_statements.ensures.popped
+    on_ok_3 c.close_statements.result (λ closed waited popped. statements_untouched g.T.Traverse.watches c.args.is_program_body _ _ _ _ _ _ c.walk_opened.new.statements.items c.close_statements.new.statements.items c.open_list.ensures.injector c.in_ok-open_list.ensures.opened c.in_ok-walk_opened.ensures.untouched closed waited popped) c.close_statements.ensures.closed c.close_statements.ensures.waiting c.close_statements.ensures.popped
 
 pub walk_expression_body-returns-clause-untouched : goal.walk_expression_body-returns-clause-untouched
 walk_expression_body-returns-clause-untouched g t c =
@@ -64,14 +67,19 @@ walk_node-returns-clause-logged g t c =
     let walked = c.in_ok-walk_fields.ensures.untouched.document in
     on_ok c.leave_node.result (λ third. node_logged (IsWatched w c.args.ctx.now) g.T.Traverse.trace (g.T.Traverse.log c.args.pass.now) (g.T.Traverse.log c.enter_node.new.pass) (g.T.Traverse.log c.walk_fields.new.pass) (g.T.Traverse.log c.leave_node.new.pass) c.args.place c.args.levels (node_doc c.args.node.now) (node_doc c.enter_node.new.node) (node_doc c.walk_fields.new.node) c.if-levels-eq0.false (λ s. entered s.watching) (λ s. walked (so s) ∙ entered s.watching) (logged_under _ _ _ _ (λ s. s.watching) c.in_ok-enter_node.ensures.logged) (logged_under _ _ _ _ so c.in_ok-walk_fields.ensures.logged) (logged_under _ _ _ _ (λ s. s.watching) third)) c.leave_node.ensures.logged
 
-pub walk_statements-returns-clause-logged : goal.walk_statements-returns-clause-logged
-walk_statements-returns-clause-logged g t c =
+pub walk_opened-returns-clause-logged : goal.walk_opened-returns-clause-logged
+walk_opened-returns-clause-logged g t c =
     let w = g.T.Traverse.watches in
     let P = IsWatched w c.args.ctx.now in
-    let opened : P → IsWatched w c.open_list.new.ctx = watched_as _ _ _ c.open_list.ensures.injector in
-    let so : P → IsWatched w c.enter_statements.new.ctx = λ s. watched_on w _ _ _ _ (untouched_under _ _ _ _ (λ v. v.watching) c.in_ok-enter_statements.ensures.untouched) (opened s) in
+    let so : P → IsWatched w c.enter_statements.new.ctx = watched_on w _ _ _ _ (untouched_under _ _ _ _ (λ v. v.watching) c.in_ok-enter_statements.ensures.untouched) in
     let first = docs_in c.args.statements.now.items in
     let entered_docs = docs_in c.enter_statements.new.statements.items in
     let walked = docs_in c.walk_elements.new.parts.items in
     let entered : P → list entered_docs ≡ list first = λ s. c.in_ok-enter_statements.ensures.untouched.document s.watching in
-    on_ok c.close_statements.result (λ closed. statements_logged P g.T.Traverse.trace (g.T.Traverse.log c.args.pass.now) (g.T.Traverse.log c.enter_statements.new.self) (g.T.Traverse.log c.walk_elements.new.pass) (g.T.Traverse.log c.exit_statements.new.self) (λ ds. visits_each ds c.args.place c.args.levels) first entered_docs walked (same_list entered_docs first entered) (same_list walked first (λ s. c.in_ok-walk_elements.ensures.untouched.document (so s) ∙ entered s)) c.in_ok-enter_statements.ensures.logged (logged_under _ _ _ _ so c.in_ok-walk_elements.ensures.logged) c.in_ok-exit_statements.ensures.logged) c.close_statements.ensures.closed
+    on_ok c.exit_statements.result (λ ran. statements_logged P g.T.Traverse.trace (g.T.Traverse.log c.args.pass.now) (g.T.Traverse.log c.enter_statements.new.self) (g.T.Traverse.log c.walk_elements.new.pass) (g.T.Traverse.log c.exit_statements.new.self) (λ ds. visits_each ds c.args.place c.args.levels) first entered_docs walked (same_list entered_docs first entered) (same_list walked first (λ s. c.in_ok-walk_elements.ensures.untouched.document (so s) ∙ entered s)) c.in_ok-enter_statements.ensures.logged (logged_under _ _ _ _ so c.in_ok-walk_elements.ensures.logged) ran.logged) c.exit_statements.ensures
+
+pub walk_statements-returns-clause-logged : goal.walk_statements-returns-clause-logged
+walk_statements-returns-clause-logged g t c =
+    let opened : IsWatched g.T.Traverse.watches c.args.ctx.now → IsWatched g.T.Traverse.watches c.open_list.new.ctx = watched_as _ _ _ c.open_list.ensures.injector in
+    let ds = docs_in c.args.statements.now.items in
+    on_ok c.close_statements.result (λ closed. logged_under g.T.Traverse.trace (g.T.Traverse.log c.args.pass.now) (g.T.Traverse.log c.walk_opened.new.pass) (of_statements (list ds) (visits_each ds c.args.place c.args.levels)) opened c.in_ok-walk_opened.ensures.logged) c.close_statements.ensures.closed

@@ -26,25 +26,28 @@ invariant-walk_elements-loop-i g l = record {
 }
 
 abbrev pub decreases-walk_node : goal.decreases-walk_node
-decreases-walk_node g l = 7 * l.levels
+decreases-walk_node g l = 8 * l.levels
 
 abbrev pub decreases-walk_element : goal.decreases-walk_element
-decreases-walk_element g l = 7 * l.levels + 1
+decreases-walk_element g l = 8 * l.levels + 1
 
 abbrev pub decreases-walk_elements : goal.decreases-walk_elements
-decreases-walk_elements g l = 7 * l.levels + 2
+decreases-walk_elements g l = 8 * l.levels + 2
+
+abbrev pub decreases-walk_opened : goal.decreases-walk_opened
+decreases-walk_opened g l = 8 * l.levels + 3
 
 abbrev pub decreases-walk_statements : goal.decreases-walk_statements
-decreases-walk_statements g l = 7 * l.levels + 3
+decreases-walk_statements g l = 8 * l.levels + 4
 
 abbrev pub decreases-walk_expression_body : goal.decreases-walk_expression_body
-decreases-walk_expression_body g l = 7 * l.levels + 1
+decreases-walk_expression_body g l = 8 * l.levels + 1
 
 abbrev pub decreases-walk_part : goal.decreases-walk_part
-decreases-walk_part g l = 7 * l.levels + 4
+decreases-walk_part g l = 8 * l.levels + 5
 
 abbrev pub decreases-walk_field : goal.decreases-walk_field
-decreases-walk_field g l = 7 * l.levels + 5
+decreases-walk_field g l = 8 * l.levels + 6
 
 abbrev pub decreases-walk_fields : goal.decreases-walk_fields
-decreases-walk_fields g l = 7 * l.levels + 6
+decreases-walk_fields g l = 8 * l.levels + 7

@@ -10,7 +10,7 @@ use Rattle.oxt_walk.proofs.walk.walk_program.Goals as goal
 
 pub returns-clause-untouched : goal.returns-clause-untouched
 returns-clause-untouched g c =
-    on_ok c.exit_program.result (λ left. node_untouched g.T.Traverse.watches _ _ _ _ _ _ _ _ _ _ c.in_ok-enter_program.ensures.untouched c.go_into.ensures.injector c.go_into.ensures.declarations c.in_ok-walk_program_body.ensures.untouched c.go_out.ensures.injector c.go_out.ensures.declarations left) c.exit_program.ensures.untouched
+    on_ok c.exit_program.result (λ left. node_untouched g.T.Traverse.watches _ _ _ _ _ _ _ _ _ _ c.in_ok-enter_program.ensures.untouched c.go_into.ensures.injector c.go_into.ensures.declarations c.in_ok-walk_program_body.ensures.untouched c.go_out.ensures.injector c.go_out.ensures.declarations left.untouched) c.exit_program.ensures
 
 pub returns-clause-logged : goal.returns-clause-logged
 returns-clause-logged g c =
@@ -18,4 +18,4 @@ returns-clause-logged g c =
     let so : IsWatched w c.args.ctx.now → IsWatched w c.go_into.new.ctx = watched_inside w _ _ _ _ _ c.in_ok-enter_program.ensures.untouched c.go_into.ensures.injector in
     let entered = c.in_ok-enter_program.ensures.untouched.document in
     let walked = c.in_ok-walk_program_body.ensures.untouched.document in
-    on_ok c.exit_program.result (λ third. program_logged (IsWatched w c.args.ctx.now) g.T.Traverse.trace (g.T.Traverse.log c.args.pass.now) (g.T.Traverse.log c.enter_program.new.self) (g.T.Traverse.log c.walk_program_body.new.pass) (g.T.Traverse.log c.exit_program.new.self) (λ d. of_body (field_of (codes "body") d)) (node_doc c.args.program.now) (node_doc c.enter_program.new.node) (node_doc c.walk_program_body.new.program) (λ s. entered s.watching) (λ s. walked (so s) ∙ entered s.watching) c.in_ok-enter_program.ensures.logged (logged_under _ _ _ _ so c.in_ok-walk_program_body.ensures.logged) third) c.exit_program.ensures.logged
+    on_ok c.exit_program.result (λ third. program_logged (IsWatched w c.args.ctx.now) g.T.Traverse.trace (g.T.Traverse.log c.args.pass.now) (g.T.Traverse.log c.enter_program.new.self) (g.T.Traverse.log c.walk_program_body.new.pass) (g.T.Traverse.log c.exit_program.new.self) (λ d. of_body (field_of (codes "body") d)) (node_doc c.args.program.now) (node_doc c.enter_program.new.node) (node_doc c.walk_program_body.new.program) (λ s. entered s.watching) (λ s. walked (so s) ∙ entered s.watching) c.in_ok-enter_program.ensures.logged (logged_under _ _ _ _ so c.in_ok-walk_program_body.ensures.logged) third.logged) c.exit_program.ensures

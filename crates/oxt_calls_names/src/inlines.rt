@@ -1,0 +1,106 @@
+//! What is inlined of enums, and which of their blocks go.
+
+use crate::plans::push_constant;
+use oxt_inline::dropped::dropped_blocks;
+use oxt_inline::inlined::inlined_expressions;
+use oxt_lines::lines::Lines;
+use oxt_lines::stopped::Stopped;
+use oxt_lines::table::Table;
+use oxt_options::options::TypeScriptOptions;
+use oxt_resolve::resolve::resolve;
+use oxt_scoping::scoping::Scoping;
+use oxt_tree::tree::Node;
+use std::alloc::Global;
+
+/// Which enums are inlined.
+#[derive(Clone, Copy)]
+struct Choice {
+    enums: bool,
+    const_enums: bool,
+}
+
+/// What is found of an enum and a `const` enum, under each choice.
+pub fn print_inlines(alloc: Global, table: &Table, lines: &mut Lines) -> Result<(), Stopped> {
+    let program = table.tree(alloc, TREE)?;
+    let scoping = resolve(alloc, &program.root)?;
+    lines.heading(TREE)?;
+    print_choices(alloc, &program.root, &scoping, lines)
+}
+
+/// The name of the tree.
+const TREE: &str = "enum E { A = 1 } const enum F { B = \"x\" } f(E.A, F.B, E);";
+
+/// The four choices.
+fn print_choices(
+    alloc: Global,
+    program: &Node,
+    scoping: &Scoping,
+    lines: &mut Lines,
+) -> Result<(), Stopped> {
+    print_choice(alloc, program, scoping, chosen(false, false), lines)?;
+    print_choice(alloc, program, scoping, chosen(true, false), lines)?;
+    print_choice(alloc, program, scoping, chosen(false, true), lines)?;
+    print_choice(alloc, program, scoping, chosen(true, true), lines)
+}
+
+/// That choice.
+fn chosen(enums: bool, const_enums: bool) -> Choice {
+    Choice { enums, const_enums }
+}
+
+/// The lines under one choice.
+fn print_choice(
+    alloc: Global,
+    program: &Node,
+    scoping: &Scoping,
+    choice: Choice,
+    lines: &mut Lines,
+) -> Result<(), Stopped> {
+    let options = options_of(alloc, choice)?;
+    lines.answers("enums, const enums", &[choice.enums, choice.const_enums])?;
+    print_inlined(alloc, program, scoping, &options, lines)?;
+    print_dropped(alloc, program, scoping, &options, lines)
+}
+
+/// The options of that choice.
+fn options_of(alloc: Global, choice: Choice) -> Result<TypeScriptOptions, Stopped> {
+    let mut options = TypeScriptOptions::defaults(alloc)?;
+    options.optimize_enums = choice.enums;
+    options.optimize_const_enums = choice.const_enums;
+    Ok(options)
+}
+
+/// A line with the expressions that are inlined and their constants.
+fn print_inlined(
+    alloc: Global,
+    program: &Node,
+    scoping: &Scoping,
+    options: &TypeScriptOptions,
+    lines: &mut Lines,
+) -> Result<(), Stopped> {
+    let inlined = inlined_expressions(alloc, program, scoping, options)?;
+    lines.begin("inlined")?;
+    for expression in &inlined {
+        lines.number_value(expression.0.0)?;
+        push_constant(Some(&expression.1), lines)?;
+    }
+    lines.end()?;
+    Ok(())
+}
+
+/// A line with the blocks that go.
+fn print_dropped(
+    alloc: Global,
+    program: &Node,
+    scoping: &Scoping,
+    options: &TypeScriptOptions,
+    lines: &mut Lines,
+) -> Result<(), Stopped> {
+    let dropped = dropped_blocks(alloc, program, scoping, options)?;
+    lines.begin("dropped")?;
+    for block in &dropped {
+        lines.number_value(block.0)?;
+    }
+    lines.end()?;
+    Ok(())
+}

@@ -1,0 +1,37 @@
+-- The first misplaced node of a program, of all kinds.
+use Rattle.std.specs.Prelude.{ℕ, Bool, ◌&&◌, ◌||◌, nat_lt, nat_eq, if◌then◌else◌, Option, None, Some, option_map}
+use Rattle.oxt_enum_checks.specs.Clash.{first_clash}
+use Rattle.oxt_enum_checks.specs.Misnamed.{misnamed}
+use Rattle.oxt_faults.specs.Misplaced.{Misplacement, misplaced}
+use Rattle.oxt_faults.specs.declared.misplaced.MisplacedKind.{MisplacedKind}
+use Rattle.oxt_faults.specs.declared.misplaced.MisplacedKind.TheVariants as misplaced_kind
+use Rattle.oxt_scoping.specs.Scoped.{Scoped}
+use Rattle.oxt_tree.specs.Doc.{Doc}
+
+-- the place of a kind among those of one node
+abbrev pub rank : MisplacedKind → ℕ
+rank misplaced_kind.Body = 0
+rank misplaced_kind.Merge = 1
+rank misplaced_kind.Enum = 2
+rank misplaced_kind.Decorator = 3
+
+-- one comes before the other: its node has the lesser number, or it is of an earlier kind at the same node
+abbrev pub is_before : Misplacement → Misplacement → Bool
+is_before m n = nat_lt m.1 n.1 || (nat_eq m.1 n.1 && nat_lt (rank m.0) (rank n.0))
+
+-- the one of two that comes first
+abbrev pub former : Option Misplacement → Option Misplacement → Option Misplacement
+former None n = n
+former (Some m) None = Some m
+former (Some m) (Some n) = Some (if is_before n m then n else m)
+
+-- the node of that number, as misplaced in that way
+abbrev pub of_kind : MisplacedKind → Option ℕ → Option Misplacement
+of_kind k n = option_map (λ (i : ℕ). (k, i)) n
+
+-- The first of a whole tree: of all kinds the one at the node of the least number, and of several kinds at one node the
+-- earliest.
+abbrev pub first_misplacement : Scoped → Doc → Option Misplacement
+first_misplacement s d =
+    former (misplaced d)
+    (former (of_kind misplaced_kind.Merge (first_clash s d)) (of_kind misplaced_kind.Enum (misnamed s d)))

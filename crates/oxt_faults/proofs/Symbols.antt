@@ -1,0 +1,92 @@
+-- What is noted of symbols, one after another.
+use Rattle.std.proofs.Common.{◌≡◌, ◌∙◌, refl, sym, ap, ℕ, zero, suc, ◌+◌, ◌<◌, ◌≤◌, List, [], ◌∷◌, ◌++◌, length, drop, arith, append_assoc, add-one, length-append, Bool, false, cond, Option, Some, None}
+use Rattle.std.proofs.lemmas.List.{append-nil}
+use Rattle.std.specs.Prelude.{map, nat_lt, option_map, slice_get, slice_index_or}
+use Rattle.oxt_faults.specs.Captured.{Capture, captured, captured_as, captured_at, emits, is_captured, is_emitted, symbol_at, value_meant}
+use Rattle.oxt_faults.specs.Captured as spec
+use Rattle.oxt_faults.specs.Marks.{captured_symbols, emitting_symbols, mark_at, marked, marked_as, use_of}
+use Rattle.oxt_scoping.specs.Entries.{SymbolData}
+use Rattle.oxt_scoping.specs.Scoped.{Scoped}
+use Rattle.oxt_scoping.specs.declared.entry.Redeclaration.{Redeclaration}
+use Rattle.oxt_search.specs.First.{first_in}
+use Rattle.oxt_names.specs.declared.ids.SymbolId.{SymbolId}
+use Rattle.oxt_tree.proofs.Lists.{drop_end}
+use Rattle.oxt_tree.specs.Doc.{Doc}
+use Rattle.oxt_unbuilt.specs.Dropped.{is_dropped_by}
+
+-- ---- one symbol after another
+
+-- What was noted is of the first symbols, and what is left is of the others.
+pub record IsNoted (f : SymbolData → Bool) (ys : List SymbolData) (bs : List Bool) : Type 0 where
+  pub within : length bs ≤ length ys
+  pub whole : bs ++ map f (drop (length bs) ys) ≡ map f ys
+
+pub noted_none : (f : SymbolData → Bool) (ys : List SymbolData) (bs : List Bool) → bs ≡ [] → IsNoted f ys bs
+noted_none f ys bs empty = rw empty (record { within = omega arith; whole = refl })
+
+same_some : (b c : Bool) → Some b ≡ Some c → b ≡ c
+same_some b c h = cc
+
+rest_at : (f : SymbolData → Bool) (ys : List SymbolData) (k : ℕ) (b : Bool) → option_map f (slice_get ys k) ≡ Some b
+    → (k < length ys) × (map f (drop k ys) ≡ b ∷ map f (drop (k + 1) ys))
+rest_at f [] k b h = absurd (cc)
+rest_at f (y ∷ ys) zero b h = (omega arith, ap (λ c. c ∷ map f ys) (same_some (f y) b h))
+rest_at f (y ∷ ys) (suc k) b h = let rest = rest_at f ys k b h in (omega (arith, rest.0), rw add-one (rw add-one at rest.1))
+
+pub noted_more : (f : SymbolData → Bool) (ys : List SymbolData) (bs new : List Bool) (k : ℕ) (b : Bool) → k ≡ length bs
+    → option_map f (slice_get ys k) ≡ Some b → new ≡ bs ++ b ∷ [] → IsNoted f ys bs → IsNoted f ys new
+noted_more f ys bs new k b place at is so_far =
+    let rest = rest_at f ys (length bs) b (ap (λ n. option_map f (slice_get ys n)) (sym place) ∙ at) in
+    let long : length new ≡ length bs + 1 = ap length is ∙ length-append bs (b ∷ []) in
+    record {
+      within = omega (arith, rest.0, long);
+      whole =
+          ap (λ xs. xs ++ map f (drop (length new) ys)) is ∙ ap (λ k. (bs ++ b ∷ []) ++ map f (drop k ys)) long
+          ∙ append_assoc bs (b ∷ []) (map f (drop (length bs + 1) ys)) ∙ ap (λ xs. bs ++ xs) (sym rest.1) ∙ so_far.whole;
+    }
+
+pub noted_all : (f : SymbolData → Bool) (ys : List SymbolData) (bs : List Bool) → nat_lt (length bs) (length ys) ≡ false → IsNoted f ys bs → bs ≡ map f ys
+noted_all f ys bs past so_far =
+    let end : length ys ≤ length bs = grind (arith, past) in
+    sym (append-nil bs) ∙ ap (λ xs. bs ++ map f xs) (sym (drop_end ys (length bs) end)) ∙ so_far.whole
+
+pub ruleset marking_steps = (noted_none, noted_all)
+
+-- a declaration of one symbol emits code
+pub emits_so : (y : Option SymbolData) (ds : List Redeclaration) (b : Bool) → option_map (λ (z : SymbolData). z.declarations) y ≡ Some ds → b ≡ emits ds
+    → option_map (λ z. emits z.declarations) y ≡ Some b
+emits_so None ds b h is = absurd (cc)
+emits_so (Some y) ds b h is = let same : y.declarations ≡ ds = cc in ap (λ c. Some c) (ap emits same ∙ sym is)
+
+-- ---- what is noted, and what it is noted of
+
+-- that a declaration emits code
+emitting_at : (ys : List SymbolData) (i : ℕ) → slice_index_or (map (λ y. emits y.declarations) ys) i false ≡ is_emitted (slice_get ys i)
+emitting_at [] i = refl
+emitting_at (y ∷ ys) zero = refl
+emitting_at (y ∷ ys) (suc i) = emitting_at ys i
+
+pub emitting_mark : (s : Scoped) (bs : List Bool) (b : Bool) (i : SymbolId) (o : Option SymbolId) → bs ≡ emitting_symbols s → Some i ≡ o → b ≡ mark_at bs i → b ≡ is_emitted (symbol_at s.symbols o)
+emitting_mark s bs b i o are found is = is ∙ ap (λ cs. mark_at cs i) are ∙ emitting_at s.symbols i.0 ∙ ap (λ p. is_emitted (symbol_at s.symbols p)) found
+
+-- that it is captured
+captured_mark : (s : Scoped) (n : ℕ) (ys : List SymbolData) (i : ℕ)
+    → cond (slice_index_or (map (is_captured s) ys) i false) (option_map (use_of n) (slice_get ys i)) None ≡ captured_as s n (slice_get ys i)
+captured_mark s n [] i = refl
+captured_mark s n (y ∷ ys) zero = refl
+captured_mark s n (y ∷ ys) (suc i) = captured_mark s n ys i
+
+captured_so : (s : Scoped) (n : ℕ) (o : Option SymbolId) → marked_as s (captured_symbols s) n o ≡ captured_as s n (symbol_at s.symbols o)
+captured_so s n None = refl
+captured_so s n (Some i) = captured_mark s n s.symbols i.0
+
+-- What is marked so is sought.
+same_sought : (s : Scoped) → marked s (captured_symbols s) ≡ spec.sought s
+same_sought s = λ j. record {
+  at = λ u k i ds. cond (is_dropped_by k ds) None (captured_so s i (value_meant s i) j);
+  inside = (spec.sought s).inside;
+  in_field = (spec.sought s).in_field;
+}
+
+pub marked_found : (s : Scoped) (bs : List Bool) (d : Doc) (found : Option Capture) → bs ≡ captured_symbols s → found ≡ first_in (marked s bs) d tt → found ≡ captured s d
+marked_found s bs d found are is = is ∙ ap (λ cs. first_in (marked s cs) d tt) are ∙ ap (λ q. first_in q d tt) (same_sought s)

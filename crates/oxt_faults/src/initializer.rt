@@ -1,0 +1,139 @@
+//! The first word at the level of an initializer of a member of an enum that stays as written.
+ghost use Rattle.std.specs.Prelude.{◌≡◌, IfOk, map, option_map};
+ghost use Rattle.oxt_faults.specs.Initializers.{initializer_word, is_constant, is_written, least, lesser, own_word, sought};
+ghost use Rattle.oxt_faults.specs.Level.{LevelWordAt, found_view, level_word};
+ghost use Rattle.oxt_tree.specs.View.{doc_or_nil, docs_in, node_doc};
+
+use crate::level::{FoundWord, first_level_word, first_level_word_in};
+use oxt_grammar::holds::Row;
+use oxt_grammar::kind::Kind;
+use oxt_scoping::scoping::Scoping;
+use oxt_search::all::all_in;
+use oxt_search::search::{Inside, Search, Visit};
+use oxt_tree::ids::{NodeId, OutOfMemory};
+use oxt_tree::tree::{Node, Part};
+use oxt_unbuilt::dropped::is_dropped;
+use std::alloc::Global;
+
+/// The word of the least number, outside what is erased, that stands at the level of the initializer of a member of an
+/// enum that has no constant: the initializer goes into a function, where the word would mean something else.
+///
+/// # Errors
+///
+/// Fails only where memory runs out.
+pub fn first_initializer_word(
+    alloc: Global,
+    program: &Node,
+    scoping: &Scoping,
+) -> Result<Option<FoundWord>, OutOfMemory>
+    ensures { IfOk result (λ found. option_map found_view found
+        ≡ initializer_word scoping.now (node_doc program.now)) }
+{
+    let words = all_in(alloc, &Initializers { scoping }, program, ())?;
+    Ok(least(words.as_slice()))
+}
+
+/// The one of the least number.
+#[tactic(auto, using(crate::proofs::Leasts::steps))]
+fn least(words: &[FoundWord]) -> Option<FoundWord>
+    ensures { option_map found_view result ≡ least (map found_view words.now) }
+{
+    let mut least = None;
+    for word in words {
+        least = lesser(least, *word);
+    }
+    least
+}
+
+/// The one of the lesser number.
+fn lesser(least: Option<FoundWord>, word: FoundWord) -> Option<FoundWord>
+    ensures { option_map found_view result ≡ lesser (option_map found_view least) (found_view word) }
+{
+    match least {
+        Some(least) => {
+            if word.node.0 < least.node.0 {
+                Some(word)
+            } else {
+                Some(least)
+            }
+        }
+        None => Some(word),
+    }
+}
+
+/// The search for the first word of each such initializer.
+#[derive(Clone, Copy)]
+struct Initializers<'a> {
+    /// The constants of the members.
+    scoping: &'a Scoping,
+}
+
+impl<'a> Search for Initializers<'a> {
+    type State = ();
+
+    type Found = FoundWord;
+
+    ghost Seen = { LevelWordAt };
+
+    ghost view = { found_view };
+
+    ghost sought = { λ search. sought search.scoping.now };
+
+    fn visit(&self, node: &Node, _state: ()) -> Visit<FoundWord, ()> {
+        if is_dropped(node) {
+            Visit {
+                found: None,
+                inside: Inside::Skipped,
+            }
+        } else {
+            Visit {
+                found: own_word(self.scoping, node),
+                inside: Inside::Alike(()),
+            }
+        }
+    }
+
+    fn in_field(&self, _state: (), _kind: Kind, _row: &Row) -> Option<()> {
+        Some(())
+    }
+}
+
+/// The first word at the level of the initializer of the node, if it is a member whose initializer stays as written.
+fn own_word(scoping: &Scoping, node: &Node) -> Option<FoundWord>
+    ensures { option_map found_view result
+        ≡ own_word scoping.now node.now.kind node.now.id.0 (docs_in node.now.parts.items) }
+{
+    if is_written(scoping, node) {
+        word_in(node.field("initializer"))
+    } else {
+        None
+    }
+}
+
+/// Whether the node is a member without constant.
+fn is_written(scoping: &Scoping, node: &Node) -> bool
+    ensures { result ≡ is_written scoping.now node.now.kind node.now.id.0 }
+{
+    node.kind.is(Kind::TSEnumMember) && !is_constant(scoping, node.id)
+}
+
+/// Whether the member of that number has a constant.
+fn is_constant(scoping: &Scoping, member: NodeId) -> bool
+    ensures { result ≡ is_constant scoping.now member.0 }
+{
+    match scoping.symbol_of(member) {
+        Some(symbol) => scoping.get_enum_member_value(symbol).is_some(),
+        None => false,
+    }
+}
+
+/// The first word at the level of the part, if there is one.
+fn word_in(part: Option<&Part>) -> Option<FoundWord>
+    ensures { option_map found_view result ≡ level_word (doc_or_nil part.entry) }
+{
+    match part {
+        Some(Part::Node(node)) => first_level_word(node),
+        Some(Part::List(parts)) => first_level_word_in(parts),
+        _ => None,
+    }
+}

@@ -1,4 +1,0 @@
-pub mod Moved
-pub mod Symbols
-pub mod Tables
-pub mod Tally

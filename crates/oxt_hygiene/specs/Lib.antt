@@ -1,3 +1,0 @@
-pub mod Keeps
-pub mod Laws
-pub mod Left

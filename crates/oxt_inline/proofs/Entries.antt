@@ -1,0 +1,47 @@
+-- The table of constants, one member after another.
+use denote.Ref.{Bor}
+use Rattle.std.proofs.Common.{◌≡◌, ◌∙◌, refl, sym, ap, ℕ, ◌+◌, ◌<◌, ◌≤◌, List, [], length, drop, get_or, Bool, true, false, cond, Option, Some, None}
+use Rattle.std.specs.Option.{option_or}
+use Rattle.oxt_enums.specs.Tables.{Name}
+use Rattle.oxt_inline.specs.Constants.{entry_at, first_valued, is_named, own_value, valued_view, valued_views}
+use Rattle.oxt_inline.specs.declared.constants.Valued.{Valued}
+use Rattle.oxt_names.specs.Constant.{Constant}
+use Rattle.oxt_names.specs.declared.constant.ConstantValue.{ConstantValue}
+use Rattle.oxt_tree.proofs.Lists.{drop_at, drop_end}
+
+abbrev pub Entries : Type 0
+Entries = List (Name × Bor ConstantValue)
+
+-- The table has the constants of the members before a place; those from there on have the others.
+abbrev pub SoFar : List Valued → ℕ → Entries → Type 0
+SoFar ms i es = (e : ℕ) (x : List ℕ) → option_or (entry_at e x es) (first_valued (valued_views (drop i ms)) e x) ≡ first_valued (valued_views ms) e x
+
+pub none_so_far : (ms : List Valued) (es : Entries) → es ≡ [] → SoFar ms 0 es
+none_so_far ms es empty e x = ap (λ fs. option_or (entry_at e x fs) (first_valued (valued_views ms) e x)) empty
+
+or_again : (a b c : Option Constant) → option_or (option_or a b) c ≡ option_or a (option_or b c)
+or_again None b c = refl
+or_again (Some v) b c = refl
+
+or_none : (a : Option Constant) → option_or a None ≡ a
+or_none None = refl
+or_none (Some v) = refl
+
+-- the first of the members is named so, or one of the others
+first_or : (b : Bool) (v : Constant) (o : Option Constant) → option_or (cond b (Some v) None) o ≡ cond b (Some v) o
+first_or true v o = refl
+first_or false v o = refl
+
+pub one_more : (ms : List Valued) (i : ℕ) (m : Valued) (old new : Entries) → i < length ms → m ≡ get_or ms i m → ((e : ℕ) (x : List ℕ) → entry_at e x new ≡ option_or (entry_at e x old) (own_value (valued_view m) e x)) → SoFar ms i old → SoFar ms (i + 1) new
+one_more ms i m old new within at put so_far e x =
+    let rest = first_valued (valued_views (drop (i + 1) ms)) e x in
+    ap (λ o. option_or o rest) (put e x)
+    ∙ or_again (entry_at e x old) (own_value (valued_view m) e x) rest
+    ∙ ap (option_or (entry_at e x old)) (first_or (is_named e x (valued_view m)) (valued_view m).value rest ∙ sym (ap (λ ns. first_valued (valued_views ns) e x) (drop_at ms i m within at)))
+    ∙ so_far e x
+
+pub all_so_far : (ms : List Valued) (i : ℕ) (es : Entries) → length ms ≤ i → SoFar ms i es → (e : ℕ) (x : List ℕ) → entry_at e x es ≡ first_valued (valued_views ms) e x
+all_so_far ms i es past so_far e x =
+    sym (or_none (entry_at e x es)) ∙ ap (λ ns. option_or (entry_at e x es) (first_valued (valued_views ns) e x)) (sym (drop_end ms i past)) ∙ so_far e x
+
+pub ruleset steps = (none_so_far, one_more, all_so_far)

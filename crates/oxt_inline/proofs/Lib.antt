@@ -1,0 +1,5 @@
+pub mod Drops
+pub mod Entries
+pub mod Found
+pub mod Shared
+pub mod Tables

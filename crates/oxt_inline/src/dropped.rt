@@ -1,0 +1,156 @@
+//! The blocks of enums that are dropped.
+ghost use Rattle.std.specs.Prelude.{◌≡◌, ℕ, IfOk, map, option_map};
+ghost use Rattle.oxt_inline.specs.DroppedEnums.{blocks, dropped, dropped_at, dropped_by, goes};
+ghost use Rattle.oxt_inline.specs.Needed.{needed, number_of};
+ghost use Rattle.oxt_options.specs.Facts.{is_in};
+ghost use Rattle.oxt_options.specs.Lists.{numbers_in};
+ghost use Rattle.oxt_options.specs.Options.{typescript_view};
+ghost use Rattle.oxt_tree.specs.View.{docs_in, node_doc};
+
+use crate::names::named_symbol;
+use crate::needed::needed_symbols;
+use crate::values::{is_optimized, optimizes};
+use indexmap::IndexSet;
+use oxt_grammar::holds::Row;
+use oxt_grammar::kind::Kind;
+use oxt_names::ids::SymbolId;
+use oxt_options::TypeScriptOptions;
+use oxt_scoping::scoping::Scoping;
+use oxt_search::all::all_in;
+use oxt_search::search::{Inside, Search, Visit};
+use oxt_tree::ids::{NodeId, OutOfMemory};
+use oxt_tree::tree::Node;
+use oxt_unbuilt::dropped::is_dropped;
+use std::alloc::Global;
+
+/// The blocks, in the order of the text, of the enums that are dropped: members of the enum are inlined, no block of it is
+/// exported or ambient, no declaration of another kind emits code under its name, each of its members is constant and
+/// none is named by a template, and no use of it as a value is left. `scoping` is the table of the program.
+///
+/// # Errors
+///
+/// Nothing but want of memory.
+pub fn dropped_blocks(
+    alloc: Global,
+    program: &Node,
+    scoping: &Scoping,
+    options: &TypeScriptOptions,
+) -> Result<Vec<NodeId>, OutOfMemory>
+    ensures { IfOk result (λ nodes. numbers_in nodes.items
+        ≡ dropped scoping.now (node_doc program.now) (typescript_view options.now)) }
+{
+    if optimizes(options) && !program.is_definition_file() {
+        let needed = needed_set(alloc, program, scoping, options)?;
+        dropped_by(alloc, program, scoping, options, &needed)
+    } else {
+        Ok(Vec::new(alloc))
+    }
+}
+
+/// The symbols that the program needs.
+fn needed_set(
+    alloc: Global,
+    program: &Node,
+    scoping: &Scoping,
+    options: &TypeScriptOptions,
+) -> Result<IndexSet<u64>, OutOfMemory>
+    ensures { IfOk result (λ set. (n : ℕ) → is_in set.keys n
+        ≡ is_in (needed scoping.now (node_doc program.now) (typescript_view options.now)) n) }
+{
+    let symbols = needed_symbols(alloc, program, scoping, options)?;
+    set_of(alloc, symbols.as_slice())
+}
+
+/// The numbers of the symbols.
+fn set_of(alloc: Global, symbols: &[SymbolId]) -> Result<IndexSet<u64>, OutOfMemory>
+    ensures { IfOk result (λ set. (n : ℕ) → is_in set.keys n ≡ is_in (map number_of symbols.now) n) }
+{
+    Ok(symbols.iter().map(|symbol| symbol.0).collect(alloc)?)
+}
+
+/// The blocks that are dropped, where the program needs these symbols.
+#[tactic(auto, using(oxt_search::proofs::Given::as_it_is))]
+fn dropped_by(
+    alloc: Global,
+    program: &Node,
+    scoping: &Scoping,
+    options: &TypeScriptOptions,
+    needed: &IndexSet<u64>,
+) -> Result<Vec<NodeId>, OutOfMemory>
+    ensures { IfOk result (λ nodes. numbers_in nodes.items
+        ≡ dropped_by (is_in needed.now.keys) scoping.now (node_doc program.now) (typescript_view options.now)) }
+{
+    let search = Blocks {
+        scoping,
+        options,
+        needed,
+    };
+    all_in(alloc, &search, program, ())
+}
+
+/// The search for such blocks.
+#[derive(Clone, Copy)]
+struct Blocks<'a> {
+    scoping: &'a Scoping,
+    options: &'a TypeScriptOptions,
+    needed: &'a IndexSet<u64>,
+}
+
+impl<'a> Search for Blocks<'a> {
+    type State = ();
+
+    type Found = NodeId;
+
+    ghost Seen = { ℕ };
+
+    ghost view = { λ node. node.0 };
+
+    ghost sought = { λ b. blocks b.scoping.now (typescript_view b.options.now) (is_in b.needed.now.keys) };
+
+    fn visit(&self, node: &Node, _state: ()) -> Visit<NodeId, ()> {
+        Visit {
+            found: self.dropped_at(node),
+            inside: if is_dropped(node) {
+                Inside::Skipped
+            } else {
+                Inside::Alike(())
+            },
+        }
+    }
+
+    fn in_field(&self, _state: (), _kind: Kind, _row: &Row) -> Option<()> {
+        Some(())
+    }
+}
+
+impl<'a> Blocks<'a> {
+    /// The node, if it is such a block.
+    fn dropped_at(&self, node: &Node) -> Option<NodeId>
+        ensures { option_map (λ node. node.0) result ≡ dropped_at self.now.scoping.now
+            (typescript_view self.now.options.now) (is_in self.now.needed.now.keys) node.now.kind node.now.id.0
+            (docs_in node.now.parts.items) }
+    {
+        if node.kind.is(Kind::TSEnumDeclaration)
+            && self.goes(named_symbol(self.scoping, node.field("id")))
+        {
+            Some(node.id)
+        } else {
+            None
+        }
+    }
+
+    /// Whether the enum of that symbol is dropped.
+    fn goes(&self, symbol: Option<SymbolId>) -> bool
+        ensures { result ≡ goes self.now.scoping.now (typescript_view self.now.options.now)
+            (is_in self.now.needed.now.keys) symbol }
+    {
+        match symbol {
+            Some(symbol) => {
+                self.scoping.has_symbol(symbol)
+                    && is_optimized(self.scoping, self.options, symbol)
+                    && !self.needed.contains(&symbol.0)
+            }
+            None => false,
+        }
+    }
+}

@@ -1,0 +1,108 @@
+//! What a node stands as, by what is around it.
+ghost use Rattle.std.specs.Prelude.{◌≡◌};
+ghost use Rattle.oxt_grammar.specs.Field.{row_view};
+ghost use Rattle.oxt_inline.specs.Seats.{has_own_name, is_constant, is_exported, is_name, is_value, passed, seat_in};
+
+use crate::target::holds_target;
+use oxt_grammar::category::Category;
+use oxt_grammar::holds::Row;
+use oxt_grammar::kind::Kind;
+
+/// What a node stands as.
+#[derive(Clone, Copy, Debug)]
+pub enum Seat {
+    /// Something whose value is read, or anything else.
+    Value,
+    /// A target to which something is assigned.
+    Target,
+    /// The element of a chain, or what its wrappers and parentheses hold: no expression of its own.
+    Element,
+    /// A declaration that is exported.
+    Exported,
+    /// The name of an enum, or of a function or class that is an expression.
+    Name,
+    /// A part of a member of an enum whose value is known.
+    Constant,
+}
+
+/// What a node stands as in that field of a node of that kind, which itself stands as that.
+pub fn seat_in(seat: Seat, kind: Kind, row: &Row) -> Seat
+    ensures { result ≡ seat_in seat kind (row_view row.now) }
+{
+    if Category::Transparent.contains(kind) {
+        passed(seat)
+    } else if kind.is(Kind::ChainExpression) {
+        Seat::Element
+    } else if kind.is(Kind::ExportDeclaration) {
+        Seat::Exported
+    } else if has_own_name(kind) && row.name == "id" {
+        Seat::Name
+    } else if holds_target(row.holds) {
+        Seat::Target
+    } else {
+        Seat::Value
+    }
+}
+
+/// What stands in a wrapper or parentheses that stand as that: the same, if they are an expression.
+fn passed(seat: Seat) -> Seat
+    ensures { result ≡ passed seat }
+{
+    match seat {
+        Seat::Target => Seat::Target,
+        Seat::Element => Seat::Element,
+        _ => Seat::Value,
+    }
+}
+
+/// Whether a node of the kind is an enum, or a function or class that is an expression.
+fn has_own_name(kind: Kind) -> bool
+    ensures { result ≡ has_own_name kind }
+{
+    match kind {
+        Kind::TSEnumDeclaration => true,
+        Kind::FunctionExpression => true,
+        Kind::ClassExpression => true,
+        _ => false,
+    }
+}
+
+/// Whether its value is read.
+pub fn is_value(seat: Seat) -> bool
+    ensures { result ≡ is_value seat }
+{
+    match seat {
+        Seat::Value => true,
+        _ => false,
+    }
+}
+
+/// Whether it is exported.
+pub fn is_exported(seat: Seat) -> bool
+    ensures { result ≡ is_exported seat }
+{
+    match seat {
+        Seat::Exported => true,
+        _ => false,
+    }
+}
+
+/// Whether it is such a name.
+pub fn is_name(seat: Seat) -> bool
+    ensures { result ≡ is_name seat }
+{
+    match seat {
+        Seat::Name => true,
+        _ => false,
+    }
+}
+
+/// Whether it is a part of a member whose value is known.
+pub fn is_constant(seat: Seat) -> bool
+    ensures { result ≡ is_constant seat }
+{
+    match seat {
+        Seat::Constant => true,
+        _ => false,
+    }
+}

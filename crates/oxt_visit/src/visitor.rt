@@ -1,0 +1,59 @@
+//! What a visitor does at the nodes of a tree.
+ghost use Rattle.std.specs.Prelude.{◌≡◌, ◌≤◌, ℕ, OnOk};
+ghost use Rattle.oxt_grammar.specs.declared.kind.Kind.{Kind};
+ghost use Rattle.oxt_tree.specs.Doc.{Doc, Docs, list, node};
+ghost use Rattle.oxt_tree.specs.View.{node_doc};
+ghost use Rattle.oxt_visit.specs.Reading.{readings};
+ghost use Rattle.oxt_visit.specs.Weight.{weight};
+
+use oxt_tree::ids::{NodeId, OutOfMemory};
+use oxt_tree::tree::Node;
+
+/// A visitor that changes a tree. Its hooks do not walk: a walk calls them, and goes into what stands there then.
+///
+/// A visitor names a reading of documents in which what its hooks change does not show. The reading of a node follows from
+/// those of its fields, and so does that of a list from its elements; a walk then keeps it of the whole tree.
+///
+/// A walk ends, since hooks make no node heavier. A node weighs one, what its fields weigh, and what it has to spare: what a
+/// hook may still put in its place. A visitor says by its kind and number what that is, and holds to it.
+///
+/// # Errors
+///
+/// `OutOfMemory` for want of memory or of numbers alone. The tree and the visitor may then only be dropped.
+pub trait VisitJsMut {
+    /// What is read of documents.
+    ghost Seen: { Type 0 };
+
+    /// How they are read.
+    ghost read: { Doc → Seen };
+
+    /// What a node has to spare, by its kind and number.
+    ghost spare: { Self → Kind → ℕ → ℕ };
+
+    /// At an expression, before its parts. The expression may be changed or replaced.
+    fn visit_expression(&mut self, node: &mut Node) -> Result<(), OutOfMemory>
+        ensures kept { OnOk result (read (node_doc node.new) ≡ read (node_doc node.old)) }
+        ensures no_heavier { OnOk result (weight (spare self.old) (node_doc node.new) ≤ weight (spare self.old) (node_doc node.old)) }
+        ensures steady { OnOk result (spare self.new ≡ spare self.old) }
+    {
+        Ok(())
+    }
+
+    /// Before the parts of a node that opens a scope.
+    fn enter_scope(&mut self, _node: NodeId) -> Result<(), OutOfMemory>
+        ensures steady { OnOk result (spare self.new ≡ spare self.old) }
+    {
+        Ok(())
+    }
+
+    /// After them.
+    fn leave_scope(&mut self)
+        ensures steady { spare self.new ≡ spare self.old }
+    {}
+
+    /// The reading of a node follows from those of its fields.
+    ghost by_fields: { (k : Kind) → (n b e : ℕ) → (ds es : Docs) → readings read ds ≡ readings read es → read (node k n b e ds) ≡ read (node k n b e es) };
+
+    /// The reading of a list follows from those of its elements.
+    ghost by_elements: { (ds es : Docs) → readings read ds ≡ readings read es → read (list ds) ≡ read (list es) };
+}
