@@ -5,14 +5,20 @@
     tools/compare_trees.py ORACLE OXT --random SEED COUNT   random programs of the generators in ORACLE/tests
 
 ORACLE is the folder of the reading, a Python package `oxtref` that is no part of this repository. OXT is the built
-program `oxt`. Trees with a form that is not built yet are counted and passed over; a tree that is not certified differs.
+program `oxt`. `--flags="WORD .."` gives both of them these flags, and `--some-flags` gives them for each tree some of the
+flags without a value, by its name. Trees with a form that is not built yet are counted and passed over; a tree that is not
+certified differs.
 Prints a line for each tree that differs, then the counts. The status is 1 if there is a difference, and else 0.
 """
+import argparse
+import random
 import subprocess
 import sys
 
 import trees
 from trees import Differences, words_and_cases
+
+FLAGS = ("--only-remove-type-imports", "--optimize-enums", "--optimize-const-enums")
 
 
 class Reading(trees.Reading):
@@ -22,8 +28,8 @@ class Reading(trees.Reading):
         super().__init__(folder)
         self.folder = folder
 
-    def answer(self, text):
-        return answer([sys.executable, "-m", "oxtref.oxt"], text, self.folder)
+    def answer(self, flags, text):
+        return answer([sys.executable, "-m", "oxtref.oxt", *flags], text, self.folder)
 
 
 def answer(call, text, folder=None):
@@ -32,18 +38,36 @@ def answer(call, text, folder=None):
     return done.returncode, done.stdout, done.stderr
 
 
+def flags_by_name():
+    """What says the flags for a tree of a name. Takes its words off the command line."""
+    parser = argparse.ArgumentParser(add_help=False)
+    parser.add_argument("--flags", default="")
+    parser.add_argument("--some-flags", action="store_true")
+    words, sys.argv[1:] = parser.parse_known_args()
+    if not words.some_flags:
+        return lambda name: words.flags.split()
+
+    def some_flags(name):
+        chance = random.Random(name)
+        return [flag for flag in FLAGS if chance.random() < 0.5]
+
+    return some_flags
+
+
 def main():
+    flags_of = flags_by_name()
     reading, program, cases = words_and_cases(__doc__, Reading)
     differences = Differences()
     for name, text in cases:
-        found = answer([program], text)
+        flags = flags_of(name)
+        found = answer([program, *flags], text)
         if found[2].startswith(b"unbuilt "):
             differences.add(unbuilt=1)
             continue
-        wanted = reading.answer(text)
-        differences.add(**{"lowered" if found[0] == 0 else "refused": 1})
+        wanted = reading.answer(flags, text)
+        differences.add(**{"lowered" if found[0] in (0, 1) else "refused": 1})
         if found != wanted:
-            differences.show(name, found[0], wanted[2] or wanted[1][:80], found[2] or found[1][:80])
+            differences.show(" ".join([name, *flags]), found[0], wanted[2] or wanted[1][:80], found[2] or found[1][:80])
     differences.end()
 
 
