@@ -93,6 +93,10 @@ class Grammar:
     def is_typescript(self, kind):
         return kind.startswith("TS") or kind.startswith("JSDoc")
 
+    def fields(self):
+        """The key of each field, by the variant that stands for it, in the order in which they come first."""
+        return {variant(f.name): f.name for fields in self.kinds.values() for f in fields}
+
     def all_words(self):
         seen = []
         for words in self.words.values():
@@ -119,24 +123,68 @@ def holds_of(field, enum):
     return f"Holds::{field.holds}{inner}"
 
 
-def slice_of(name, items):
+def slice_of(name, items, indent=12):
     """The items as a slice in the arm of that name, in the formatter's layout."""
-    inline = ", ".join(items)
-    if len(inline) <= 60 and len(f"            {name} => &[{inline}],") <= 100:
+    inline, margin = ", ".join(items), " " * indent
+    if len(inline) <= 60 and len(f"{margin}{name} => &[{inline}],") <= 100:
         return f"&[{inline}]"
-    return "&[\n" + "".join(f"                {item},\n" for item in items) + "            ]"
+    return "&[\n" + "".join(f"{margin}    {item},\n" for item in items) + f"{margin}]"
+
+
+def variant(field):
+    """The variant that stands for the field of that key."""
+    return field[:1].upper() + field[1:]
 
 
 def variants(names):
     return "\n".join(f"    {name}," for name in names)
 
 
+# How many variants one function tells apart: the proof of a match grows faster than its arms.
+PART = 46
+
+
+def parts(variants):
+    """The variants, so many at a time, with the number of the next part: none behind the last."""
+    split = [variants[i : i + PART] for i in range(0, len(variants), PART)]
+    return [(part, i, i + 1 if i < len(split) else None) for i, part in enumerate(split, 1)]
+
+
+def part_name(name, number):
+    """The name of what tells the variants of that part and of those behind it."""
+    return name if number == 1 else f"{name}_{number}"
+
+
+def part_names(name, variants):
+    return ", ".join(part_name(name, number) for _, number, _ in parts(variants))
+
+
+def name_functions(enum, texts, spec, doc):
+    """The functions that answer the text of a variant of the enum."""
+    functions = []
+    for part, number, behind in parts(list(texts)):
+        arms = "\n".join(f"            {enum}::{variant} => \"{texts[variant]}\"," for variant in part)
+        rest = f"self.{part_name('name', behind)}()" if behind else '""'
+        functions.append(f"""    /// {doc if number == 1 else 'The same, behind those above.'}
+    {'pub ' if number == 1 else ''}fn {part_name('name', number)}(self) -> &'static str
+        ensures {{ result.now ≡ {part_name(spec, number)} self }}
+    {{
+        match self {{
+{arms}
+            _ => {rest},
+        }}
+    }}
+""")
+    return "\n".join(functions)
+
+
 def kind_source(g):
-    names = "\n".join(f"            Kind::{k} => \"{k}\"," for k in g.kinds)
+    named = part_names("name_of", list(g.kinds))
+    names = name_functions("Kind", {k: k for k in g.kinds}, "name_of", "The text that a tree's JSON has for the kind.")
     typescript = "\n".join(f"            Kind::{k} => {'true' if g.is_typescript(k) else 'false'}," for k in g.kinds)
     return f"""// {NOTE}
 ghost use Rattle.std.specs.Prelude.{{◌≡◌}};
-ghost use Rattle.oxt_grammar.specs.Kinds.{{name_of, is_typescript_kind}};
+ghost use Rattle.oxt_grammar.specs.Kinds.{{{named}, is_typescript_kind}};
 
 /// What a node is: the text of its `type`.
 #[derive(Clone, Copy, Debug, PartialEq, Eq)]
@@ -145,15 +193,7 @@ pub enum Kind {{
 }}
 
 impl Kind {{
-    /// The text that a tree's JSON has for the kind.
-    pub fn name(self) -> &'static str
-        ensures {{ result.now ≡ name_of self }}
-    {{
-        match self {{
 {names}
-        }}
-    }}
-
     /// Whether the kind is one of TypeScript alone.
     pub fn is_typescript(self) -> bool
         ensures {{ result ≡ is_typescript_kind self }}
@@ -232,18 +272,78 @@ abbrev pub setting_of : Kind → Setting
 """
 
 
+def names_spec(enum, prefix, texts, spec, doc):
+    """The definitions of the text of a variant of the enum, whose variants have that prefix."""
+    definitions = []
+    for part, number, behind in reversed(parts(list(texts))):
+        name = part_name(spec, number)
+        clauses = "\n".join(f"{name} {prefix}{variant} = codes \"{texts[variant]}\"" for variant in part)
+        rest = f"{part_name(spec, behind)} x" if behind else "[]"
+        says = doc if number == 1 else "the same, behind those of the parts before"
+        definitions.append(f"-- {says}\nabbrev pub {name} : {enum} → List ℕ\n{clauses}\n{name} x = {rest}\n")
+    return "\n".join(definitions)
+
+
+def each_field_proof(g):
+    cases = "\n".join(f"field_of-key field.{field} = refl" for field in g.fields())
+    return f"""-- {NOTE}
+-- The field of a key.
+use Rattle.std.proofs.Common.{{◌≡◌, refl, ℕ, List, [], ◌∷◌, Option, Some, bytes_eq}}
+use Rattle.std.specs.Prelude.{{find}}
+use Rattle.oxt_grammar.specs.Keys.{{key_of}}
+use Rattle.oxt_grammar.specs.declared.field.Field.{{Field}}
+use Rattle.oxt_grammar.specs.declared.field.Field.TheVariants as field
+
+-- each field
+pub fields : List Field
+fields = {" ∷ ".join(f"field.{field}" for field in g.fields())} ∷ []
+
+-- the field of that key
+unfoldable pub field_of : List ℕ → Option Field
+field_of key = find (λ f. bytes_eq (key_of f) key) fields
+
+pub field_of-key : (f : Field) → field_of (key_of f) ≡ Some f
+unfolding field_of fields
+{cases}
+"""
+
+
+def fields_source(g):
+    texts = g.fields()
+    names = name_functions("Field", texts, "key_of", "The key that a tree's JSON has for the field.")
+    return f"""// {NOTE}
+ghost use Rattle.std.specs.Prelude.{{◌≡◌}};
+ghost use Rattle.oxt_grammar.specs.Keys.{{{part_names("key_of", list(texts))}}};
+
+/// A field of a node, by its name; which kinds have it, the rows tell.
+#[derive(Clone, Copy, Debug, PartialEq, Eq)]
+pub enum Field {{
+{variants(texts)}
+}}
+
+impl Field {{
+{names}}}
+"""
+
+
+def keys_spec(g):
+    texts = g.fields()
+    return f"""-- {NOTE}
+use Rattle.std.specs.Prelude.{{ℕ, List, [], codes}}
+use Rattle.oxt_grammar.specs.declared.field.Field.{{Field}}
+use Rattle.oxt_grammar.specs.declared.field.Field.TheVariants as field
+
+{names_spec("Field", "field.", texts, "key_of", "the key that a tree's JSON has for a field")}"""
+
+
 def kinds_spec(g):
-    names = "\n".join(f"name_of {k} = codes \"{k}\"" for k in g.kinds)
     typescript = "\n".join(f"is_typescript_kind {k} = {'true' if g.is_typescript(k) else 'false'}" for k in g.kinds)
     return f"""-- {NOTE}
-use Rattle.std.specs.Prelude.{{ℕ, List, Bool, true, false, codes}}
+use Rattle.std.specs.Prelude.{{ℕ, List, [], Bool, true, false, codes}}
 use Rattle.oxt_grammar.specs.declared.kind.Kind.{{Kind}}
 use Rattle.oxt_grammar.specs.declared.kind.Kind.TheVariants.{{{", ".join(g.kinds)}}}
 
--- the text that a tree's JSON has for a kind
-abbrev pub name_of : Kind → List ℕ
-{names}
-
+{names_spec("Kind", "", {k: k for k in g.kinds}, "name_of", "the text that a tree's JSON has for a kind")}
 -- whether a kind is one of TypeScript alone
 abbrev pub is_typescript_kind : Kind → Bool
 {typescript}
@@ -384,51 +484,76 @@ def presence(field):
     return "Required" if field.required else "TypeScript" if field.typescript else "Optional"
 
 
-def row_source(g):
+def row_arms(g, part):
     arms = ""
-    for kind, fields in g.kinds.items():
-        rows = "".join(f"                \"{f.name}\" {presence(f)} {holds_of(f, 'rust')},\n" for f in fields)
+    for kind in part:
+        fields = g.kinds[kind]
+        rows = "".join(f"                {variant(f.name)} {presence(f)} {holds_of(f, 'rust')},\n" for f in fields)
         arms += f"            {kind} {{\n{rows}            }}\n" if fields else f"            {kind} {{}}\n"
+    return arms
+
+
+def row_functions(g):
+    functions = []
+    for part, number, behind in parts(list(g.kinds)):
+        rest = f"self.{part_name('rows', behind)}()" if behind else "&[]"
+        spec = part_name("row_of", number)
+        doc = "The fields of a node of this kind, in the order in which they are checked." if number == 1 else "The same, behind the kinds above."
+        unfolding = "    #[tactic(auto, unfolding(crate::specs::Rows::row_of))]\n" if number == 1 else ""
+        functions.append(f"""    /// {doc}
+{unfolding}    {'pub ' if number == 1 else ''}fn {part_name('rows', number)}(self) -> &'static [Row]
+        ensures {{ map row_view result.now ≡ {spec} self }}
+    {{
+        rows! {{ self; {rest};
+{row_arms(g, part)}        }}
+    }}
+""")
+    return "\n".join(functions)
+
+
+def row_source(g):
+    named = part_names("row_of", list(g.kinds))
     return f"""// {NOTE}
 ghost use Rattle.std.specs.Prelude.{{◌≡◌, map}};
 ghost use Rattle.oxt_grammar.specs.Field.{{row_view}};
-ghost use Rattle.oxt_grammar.specs.Rows.{{row_of}};
+ghost use Rattle.oxt_grammar.specs.Rows.{{{named}}};
 
 use crate::category::Category;
+use crate::field::Field;
 use crate::holds::{{Holds, Presence, Row}};
 use crate::kind::Kind;
 use crate::word::Words;
 
 macro_rules! rows {{
-    ($kind:expr; $($name:ident {{ $($field:literal $presence:ident $holds:expr,)* }})*) => {{
+    ($kind:expr; $rest:expr; $($name:ident {{ $($field:ident $presence:ident $holds:expr,)* }})*) => {{
         match $kind {{
             $(Kind::$name => &[
-                $(Row {{ name: $field, holds: $holds, presence: Presence::$presence }}),*
+                $(Row {{ field: Field::$field, holds: $holds, presence: Presence::$presence }}),*
             ],)*
+            _ => $rest,
         }}
     }};
 }}
 
 impl Kind {{
-    /// The fields of a node of this kind, in the order in which they are checked.
-    #[tactic(auto, unfolding(crate::specs::Rows::row_of))]
-    pub fn rows(self) -> &'static [Row]
-        ensures {{ map row_view result.now ≡ row_of self }}
-    {{
-        rows! {{ self;
-{arms}        }}
-    }}
-}}
+{row_functions(g)}}}
 """
 
 
 def rows_spec(g):
     def rule(f):
         return f"field (codes \"{f.name}\") {holds_of(f, 'antt')} Presence.{presence(f)}"
-    lines = ""
-    for kind, fields in g.kinds.items():
-        rows = " ∷\n    ".join(rule(f) for f in fields)
-        lines += f"row_of kind.{kind} =\n    {rows} ∷ []\n" if fields else f"row_of kind.{kind} = []\n"
+    texts = []
+    for part, number, behind in reversed(parts(list(g.kinds))):
+        name = part_name("row_of", number)
+        lines = ""
+        for kind in part:
+            rows = " ∷\n    ".join(rule(f) for f in g.kinds[kind])
+            lines += f"{name} kind.{kind} =\n    {rows} ∷ []\n" if rows else f"{name} kind.{kind} = []\n"
+        lines += f"{name} k = {part_name('row_of', behind)} k\n" if behind else f"{name} k = []\n"
+        doc = "the fields of a node of a kind, in the order in which they are checked" if number == 1 else "the same, behind the kinds of the parts before"
+        texts.append(f"-- {doc}\n{'unfoldable' if number == 1 else 'abbrev'} pub {name} : Kind → List Field\n{lines}")
+    lines = "\n".join(texts)
     return f"""-- {NOTE}
 use Rattle.std.specs.Prelude.{{List, [], ◌∷◌, codes}}
 use Rattle.oxt_grammar.specs.Field.{{Field, field}}
@@ -439,8 +564,6 @@ use Rattle.oxt_grammar.specs.declared.word.Words.TheVariants as Words
 use Rattle.oxt_grammar.specs.declared.holds.Holds.TheVariants as Holds
 use Rattle.oxt_grammar.specs.declared.holds.Presence.TheVariants as Presence
 
--- the fields of a node of a kind, in the order in which they are checked
-unfoldable pub row_of : Kind → List Field
 {lines}"""
 
 
@@ -652,6 +775,79 @@ role_of k = role.Plain
 """
 
 
+def slots_of(fields):
+    """What stands in the object of a node with these fields, in the order of the bytes of the keys."""
+    slots = [("type", "Type"), ("start", "Start"), ("end", "End")]
+    slots += [(field.name, f"Field({place})") for place, field in enumerate(fields)]
+    return [slot for _, slot in sorted(slots, key=lambda slot: slot[0].encode())]
+
+
+def order_source(g):
+    functions = []
+    for part, number, behind in parts(list(g.kinds)):
+        name, spec = part_name("order_of", number), part_name("order_of", number)
+        arms = [(kind, slice_of(f"Kind::{kind}", slots_of(g.kinds[kind]), 8)) for kind in part]
+        doc = ORDER if number == 1 else "The same, behind the kinds above."
+        unfolding = "#[tactic(auto, unfolding(crate::specs::Order::order_of))]\n" if number == 1 else ""
+        functions.append(f"""/// {doc}
+{unfolding}{'pub ' if number == 1 else ''}fn {name}(kind: Kind) -> &'static [Slot]
+    ensures {{ result.now ≡ {spec} kind }}
+{match_on_kind(arms, f"{part_name('order_of', behind)}(kind)" if behind else "&[]")}""")
+    functions = "\n".join(functions)
+    return f"""// {NOTE}
+//! The order in which the members of an object are written.
+ghost use Rattle.std.specs.Prelude.{{◌≡◌}};
+ghost use Rattle.oxt_json_write.specs.Order.{{{part_names("order_of", list(g.kinds))}}};
+
+use crate::slot::Slot;
+use crate::slot::Slot::{{End, Field, Start, Type}};
+use oxt_grammar::kind::Kind;
+
+{functions}"""
+
+
+ORDER = "What stands in the object of a node of the kind, in the order of the bytes of the keys."
+
+
+def order_spec(g):
+    def term(slot):
+        return f"slot.{slot}".replace("(", " ").rstrip(")")
+    texts = []
+    for part, number, behind in reversed(parts(list(g.kinds))):
+        name = part_name("order_of", number)
+        lines = "".join(f"{name} kind.{kind} = {' ∷ '.join(map(term, slots_of(g.kinds[kind])))} ∷ []\n" for kind in part)
+        lines += f"{name} k = {part_name('order_of', behind)} k\n" if behind else f"{name} k = []\n"
+        doc = "what stands in the object of a node of a kind, in the order of the bytes of the keys" if number == 1 else "the same, behind the kinds of the parts before"
+        texts.append(f"-- {doc}\n{'unfoldable' if number == 1 else 'abbrev'} pub {name} : Kind → List Slot\n{lines}")
+    lines = "\n".join(texts)
+    return f"""-- {NOTE}
+-- The order in which the members of an object are written.
+use Rattle.std.specs.Prelude.{{List, [], ◌∷◌}}
+use Rattle.oxt_grammar.specs.declared.kind.Kind.{{Kind}}
+use Rattle.oxt_grammar.specs.declared.kind.Kind.TheVariants as kind
+use Rattle.oxt_json_write.specs.declared.slot.Slot.{{Slot}}
+use Rattle.oxt_json_write.specs.declared.slot.Slot.TheVariants as slot
+
+{lines}"""
+
+
+def order_proof(g):
+    cases = "\n".join(f"ordered kind.{kind} = (refl, refl)" for kind in g.kinds)
+    return f"""-- {NOTE}
+-- The table has what stands in the object of a node of each kind in its order.
+use Rattle.std.proofs.Common.{{refl}}
+use Rattle.oxt_grammar.specs.Rows.{{row_of}}
+use Rattle.oxt_grammar.specs.declared.kind.Kind.{{Kind}}
+use Rattle.oxt_grammar.specs.declared.kind.Kind.TheVariants as kind
+use Rattle.oxt_json_write.proofs.Insertion.{{IsInserted}}
+use Rattle.oxt_json_write.specs.Order.{{order_of}}
+
+pub ordered : (k : Kind) → IsInserted (row_of k) (order_of k)
+unfolding row_of order_of
+{cases}
+"""
+
+
 def write(path, text, check):
     full = os.path.join(ROOT, path)
     old = open(full, encoding="utf-8").read() if os.path.exists(full) else None
@@ -672,6 +868,8 @@ def main():
     table = "crates/oxt_grammar/"
     files = {
         table + "src/kind.rt": kind_source(g),
+        table + "src/field.rt": fields_source(g),
+        table + "specs/Keys.antt": keys_spec(g),
         table + "src/category.rt": category_source(g),
         table + "src/word.rt": word_source(g),
         table + "src/context.rt": context_source(g),
@@ -682,7 +880,11 @@ def main():
         table + "specs/Rows.antt": rows_spec(g),
         table + "specs/Categories.antt": categories_spec(g),
         table + "proofs/EachKind.antt": each_kind_proof(g),
+        table + "proofs/EachField.antt": each_field_proof(g),
         "docs/GRAMMAR.md": grammar_doc(g),
+        "crates/oxt_json_write/src/order.rt": order_source(g),
+        "crates/oxt_json_write/specs/Order.antt": order_spec(g),
+        "crates/oxt_json_write/proofs/InOrder.antt": order_proof(g),
         "crates/oxt_unbuilt/src/unbuilt_kinds.rt": unbuilt_source(g),
         "crates/oxt_unbuilt/specs/UnbuiltKinds.antt": unbuilt_spec(g),
         "crates/oxt_declares/src/role_of.rt": roles_source(g),

@@ -1,8 +1,9 @@
 //! Small trees, and what is read, copied and taken of them.
 
+use oxt_grammar::field::Field;
 use oxt_grammar::kind::Kind;
 use oxt_lines::lines::Lines;
-use oxt_lines::nodes::{child, first_expression, named, node, statement_at};
+use oxt_lines::nodes::{first_expression, named, node, statement_at};
 use oxt_lines::source::outline_of;
 use oxt_lines::stopped::Stopped;
 use oxt_lines::table::Table;
@@ -66,8 +67,8 @@ fn bound(alloc: Global, table: &Table, lines: &mut Lines) -> Result<(), Stopped>
 
 /// The pattern of the first declarator of the first statement.
 fn first_pattern(program: &Node) -> Option<&Node> {
-    match statement_at(program, 0)?.list("declarations").first() {
-        Some(Part::Node(declarator)) => child(declarator, "id"),
+    match statement_at(program, 0)?.list(Field::Declarations).first() {
+        Some(Part::Node(declarator)) => declarator.child(Field::Id),
         _ => None,
     }
 }
@@ -193,7 +194,7 @@ fn taken_part(alloc: Global, inner: Node, lines: &mut Lines) -> Result<(), Stopp
     let statement = node(Kind::ExpressionStatement, 7, vec![in alloc; part]?);
     lines.answers(
         "a statement with what is left lacks its expression",
-        &[statement.lacks("expression")],
+        &[statement.lacks(Field::Expression)],
     )
 }
 

@@ -21,7 +21,9 @@ struct Counts {
 }
 
 impl VisitJsMut for Counts {
+    ghost use Rattle.std.specs.Prelude.{List, [], ◌∷◌, map};
     ghost use Rattle.oxt_tree.specs.Doc.{Doc};
+    ghost use Rattle.oxt_visit.specs.Calls.{entered, left, visited};
     ghost use Rattle.oxt_visit.specs.Reading.{same_list, same_node, whole};
 
     ghost Seen = { Doc };
@@ -29,6 +31,10 @@ impl VisitJsMut for Counts {
     ghost read = { whole };
 
     ghost spare = { λ _ k i. 0 };
+
+    ghost log = { λ counts. map entered counts.entered.items };
+
+    ghost trace = { elim [ visited d e ↦ [] | entered n ↦ entered n ∷ [] | left ↦ [] ] };
 
     ghost by_fields = { same_node };
 

@@ -10,6 +10,7 @@ use oxt_ctx::context::TraverseCtx;
 use oxt_ctx::maybe::MaybeBoundIdentifier;
 use oxt_ctx::text::get_var_name_from_node;
 use oxt_ctx::uid::{create_uid_var, create_uid_var_based_on_node, create_uid_var_with_init};
+use oxt_grammar::field::Field;
 use oxt_grammar::kind::Kind;
 use oxt_lines::lines::Lines;
 use oxt_lines::nodes::{first_expression, literal};
@@ -265,7 +266,7 @@ fn print_name(label: &str, node: &Node, lines: &mut Lines) -> Result<(), Stopped
     lines.begin(label)?;
     lines.value(node.kind.name())?;
     lines.number_value(node.id.0)?;
-    if let Some(part) = node.field("name") {
+    if let Some(part) = node.field(Field::Name) {
         lines.value(part.as_text().unwrap_or("-"))?;
     }
     lines.end()?;

@@ -1,6 +1,7 @@
 //! The first words at the level of statements.
 
 use oxt_faults::level::{FoundWord, first_level_word, first_level_word_in};
+use oxt_grammar::field::Field;
 use oxt_tree::ids::OutOfMemory;
 use oxt_tree::tree::Node;
 use std::alloc::Global;
@@ -12,7 +13,7 @@ use std::alloc::Global;
 ///
 /// Fails only where memory runs out.
 pub fn lines_of(alloc: Global, program: &Node) -> Result<String, OutOfMemory> {
-    let statements = program.list("body");
+    let statements = program.list(Field::Body);
     let mut lines = String::new(alloc);
     for statement in statements {
         let word = match statement.as_node() {

@@ -172,9 +172,9 @@ fn place_in_field(
         (option_map string_bytes inside)) }
 {
     if row.presence.is_typescript() && !part.is_default(row.holds) {
-        at(alloc, row.name)
+        at(alloc, row.name())
     } else {
-        place_below(alloc, row.name, inside)
+        place_below(alloc, row.name(), inside)
     }
 }
 
@@ -188,7 +188,7 @@ fn place_below_first(
         ≡ below_first (map row_view rows.now) (option_map string_bytes inside)) }
 {
     match rows.first() {
-        Some(row) => place_below(alloc, row.name, inside),
+        Some(row) => place_below(alloc, row.name(), inside),
         None => Ok(inside.map(|_| String::new(alloc))),
     }
 }

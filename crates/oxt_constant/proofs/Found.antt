@@ -2,6 +2,7 @@
 use Rattle.std.proofs.Common.{◌≡◌, ◌∙◌, refl, sym, ap, ℕ, zero, suc, ◌<◌, ◌≤◌, List, [], ◌∷◌, map, length, get_or, arith, Bool, true, false, if◌then◌else◌, Option, None, Some}
 use Rattle.std.specs.List.{position_from, slice_get}
 use Rattle.std.specs.Str.{bytes_eq}
+use Rattle.oxt_grammar.specs.Keys.{key_of}
 use Rattle.oxt_constant.specs.Evaluated.{Env, seen, field_seen, nothing_seen}
 use Rattle.oxt_grammar.specs.Field.{Field, row_view}
 use Rattle.oxt_grammar.specs.Rows.{row_of}
@@ -23,7 +24,7 @@ seen_named env name (r ∷ rs) (doc d ds) = step (bytes_eq r.name name) (seen_na
     step true e = refl
     step false e = e
 
-field_at : (env : Env) (name : List ℕ) (k : Kind) (rs : List Row) (ps : List Part) (o : Option ℕ) → map row_view rs ≡ row_of k → o ≡ position_from (λ r. bytes_eq r.name.now name) 0 rs → field_seen env (docs_in ps) (row_of k) name ≡ seen env (doc_at ps o)
+field_at : (env : Env) (name : List ℕ) (k : Kind) (rs : List Row) (ps : List Part) (o : Option ℕ) → map row_view rs ≡ row_of k → o ≡ position_from (λ r. bytes_eq (key_of r.field) name) 0 rs → field_seen env (docs_in ps) (row_of k) name ≡ seen env (doc_at ps o)
 field_at env name k rs ps o rows place = seen_named env name (row_of k) (docs_in ps) ∙ ap (seen env) (sym (named_at name k rs ps o rows place))
 
 slice_get_at : (ps : List Part) (i : ℕ) (p : Part) → i < length ps → p ≡ get_or ps i p → slice_get ps i ≡ Some p
@@ -37,17 +38,17 @@ slice_get_past (q ∷ ps) zero past = absurd (omega arith)
 slice_get_past (q ∷ ps) (suc i) past = slice_get_past ps i (omega arith)
 
 -- a field whose row and part are there
-pub field_some : (env : Env) (name : List ℕ) (k : Kind) (rs : List Row) (ps qs : List Part) (i : ℕ) (p : Part) → map row_view rs ≡ row_of k → Some i ≡ position_from (λ r. bytes_eq r.name.now name) 0 rs → qs ≡ ps
+pub field_some : (env : Env) (name : List ℕ) (k : Kind) (rs : List Row) (ps qs : List Part) (i : ℕ) (p : Part) → map row_view rs ≡ row_of k → Some i ≡ position_from (λ r. bytes_eq (key_of r.field) name) 0 rs → qs ≡ ps
     → i < length qs → p ≡ get_or qs i p → seen env (part_doc p) ≡ field_seen env (docs_in ps) (row_of k) name
 field_some env name k rs ps qs i p rows place same within is =
     sym (field_at env name k rs ps (Some i) rows place ∙ ap (λ o. seen env (doc_of_part o)) (ap (λ xs. slice_get xs i) (sym same) ∙ slice_get_at qs i p within is))
 
 -- a field whose part is not there
-pub field_past : (env : Env) (name : List ℕ) (k : Kind) (rs : List Row) (ps qs : List Part) (i : ℕ) → map row_view rs ≡ row_of k → Some i ≡ position_from (λ r. bytes_eq r.name.now name) 0 rs → qs ≡ ps
+pub field_past : (env : Env) (name : List ℕ) (k : Kind) (rs : List Row) (ps qs : List Part) (i : ℕ) → map row_view rs ≡ row_of k → Some i ≡ position_from (λ r. bytes_eq (key_of r.field) name) 0 rs → qs ≡ ps
     → length qs ≤ i → nothing_seen ≡ field_seen env (docs_in ps) (row_of k) name
 field_past env name k rs ps qs i rows place same past =
     sym (field_at env name k rs ps (Some i) rows place ∙ ap (λ o. seen env (doc_of_part o)) (ap (λ xs. slice_get xs i) (sym same) ∙ slice_get_past qs i past))
 
 -- a field whose row is not there
-pub field_none : (env : Env) (name : List ℕ) (k : Kind) (rs : List Row) (ps : List Part) → map row_view rs ≡ row_of k → None ≡ position_from (λ r. bytes_eq r.name.now name) 0 rs → nothing_seen ≡ field_seen env (docs_in ps) (row_of k) name
+pub field_none : (env : Env) (name : List ℕ) (k : Kind) (rs : List Row) (ps : List Part) → map row_view rs ≡ row_of k → None ≡ position_from (λ r. bytes_eq (key_of r.field) name) 0 rs → nothing_seen ≡ field_seen env (docs_in ps) (row_of k) name
 field_none env name k rs ps rows place = sym (field_at env name k rs ps None rows place)

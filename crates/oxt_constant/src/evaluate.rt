@@ -5,6 +5,7 @@ ghost use Rattle.oxt_constant.specs.Evaluated.{all_of, binary_of, constant, cons
 ghost use Rattle.oxt_names.specs.Constant.{constant_view};
 ghost use Rattle.oxt_tree.specs.Fields.{elements, named, text_in};
 ghost use Rattle.oxt_tree.specs.View.{docs_in, node_doc, part_doc};
+ghost use Rattle.oxt_grammar.specs.Keys.{key_of};
 
 use crate::form::{Form, form_of};
 use crate::leaf::{after_dot, bare, in_brackets, number_of, string_of};
@@ -12,6 +13,7 @@ use crate::meanings::Meanings;
 use crate::meter::TextMeter;
 use crate::operand::{Operand, settled, shared};
 use crate::parts::{binary, template, unary};
+use oxt_grammar::field::Field;
 use oxt_names::constant::ConstantValue;
 use oxt_tree::fields::place_of;
 use oxt_tree::ids::OutOfMemory;
@@ -50,7 +52,7 @@ fn operand_of<M: Meanings>(
         Form::Number => Ok(shared(number_of(node))),
         Form::String => Ok(shared(string_of(alloc, node)?)),
         Form::Template => of_template(alloc, env, written, node),
-        Form::Parentheses => of_field(alloc, env, written, node, "expression"),
+        Form::Parentheses => of_field(alloc, env, written, node, Field::Expression),
         Form::Unary => of_unary(alloc, env, written, node),
         Form::Binary => of_binary(alloc, env, written, node),
         Form::Name => meant(bare(env, node)),
@@ -67,13 +69,13 @@ fn of_field<M: Meanings>(
     env: &M,
     written: &mut TextMeter,
     node: &Node,
-    name: &str,
+    field: Field,
 ) -> Result<Option<Operand>, OutOfMemory>
     ensures { IfOk result
         (λ value. option_map operand_view value
-        ≡ (seen_in (M.env env.now) node.now name.now).one) }
+        ≡ (seen_in (M.env env.now) node.now (key_of field)).one) }
 {
-    match place_of(node.kind.rows(), name) {
+    match place_of(node.kind.rows(), field) {
         Some(place) => match node.parts.get(place) {
             Some(part) => of_part(alloc, env, written, part),
             None => Ok(None),
@@ -125,7 +127,7 @@ fn of_unary<M: Meanings>(
         (λ value. option_map operand_view value
         ≡ unary_of (seen_in (M.env env.now) node.now (codes "argument")).one (text_in (named (codes "operator") node.now.kind (docs_in node.now.parts.items)))) }
 {
-    match of_field(alloc, env, written, node, "argument")? {
+    match of_field(alloc, env, written, node, Field::Argument)? {
         Some(operand) => Ok(unary(node, &operand)),
         None => Ok(None),
     }
@@ -143,11 +145,11 @@ fn of_binary<M: Meanings>(
         (λ value. option_map operand_view value
         ≡ binary_of (seen_in (M.env env.now) node.now (codes "left")).one (seen_in (M.env env.now) node.now (codes "right")).one (text_in (named (codes "operator") node.now.kind (docs_in node.now.parts.items)))) }
 {
-    let left = match of_field(alloc, env, written, node, "left")? {
+    let left = match of_field(alloc, env, written, node, Field::Left)? {
         Some(left) => left,
         None => return Ok(None),
     };
-    match of_field(alloc, env, written, node, "right")? {
+    match of_field(alloc, env, written, node, Field::Right)? {
         Some(right) => binary(alloc, written, node, left, &right),
         None => Ok(None),
     }
@@ -165,7 +167,7 @@ fn of_template<M: Meanings>(
         (λ value. option_map operand_view value
         ≡ template_of (elements (named (codes "quasis") node.now.kind (docs_in node.now.parts.items))) (seen_in (M.env env.now) node.now (codes "expressions")).all) }
 {
-    match all_in_field(alloc, env, written, node, "expressions")? {
+    match all_in_field(alloc, env, written, node, Field::Expressions)? {
         Some(values) => template(alloc, written, node, &values),
         None => Ok(None),
     }
@@ -178,13 +180,13 @@ fn all_in_field<M: Meanings>(
     env: &M,
     written: &mut TextMeter,
     node: &Node,
-    name: &str,
+    field: Field,
 ) -> Result<Option<Vec<ConstantValue>>, OutOfMemory>
     ensures { IfOk result
         (λ values. option_map (λ vs. constant_views vs.items) values
-        ≡ (seen_in (M.env env.now) node.now name.now).all) }
+        ≡ (seen_in (M.env env.now) node.now (key_of field)).all) }
 {
-    match place_of(node.kind.rows(), name) {
+    match place_of(node.kind.rows(), field) {
         Some(place) => match node.parts.get(place) {
             Some(part) => all_in_part(alloc, env, written, part),
             None => Ok(None),

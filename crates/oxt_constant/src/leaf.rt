@@ -5,8 +5,10 @@ ghost use Rattle.std.specs.Option.{option_and_then};
 ghost use Rattle.oxt_names.specs.Constant.{constant_view, string};
 ghost use Rattle.oxt_tree.specs.Fields.{field_of, named, text_in};
 ghost use Rattle.oxt_tree.specs.View.{docs_in, node_doc, part_doc};
+ghost use Rattle.oxt_grammar.specs.Keys.{key_of};
 
 use crate::meanings::Meanings;
+use oxt_grammar::field::Field;
 use oxt_grammar::kind::Kind;
 use oxt_names::constant::ConstantValue;
 use oxt_names::integer::signed;
@@ -15,23 +17,12 @@ use oxt_tree::name::Name;
 use oxt_tree::tree::{Node, Part};
 use std::alloc::Global;
 
-/// The text in the field of that name.
-pub fn text_of<'a>(node: &'a Node, name: &str) -> Option<&'a str>
-    ensures { option_map (λ text. text.now) result
-        ≡ text_in (named name.now node.now.kind (docs_in node.now.parts.items)) }
-{
-    match node.field(name) {
-        Some(part) => part.as_text(),
-        None => None,
-    }
-}
-
 /// The number in the field `value`, where JavaScript's numbers hold it exactly.
 pub fn number_of(node: &Node) -> Option<ConstantValue>
     ensures { option_map constant_view result
         ≡ whole (named (codes "value") node.now.kind (docs_in node.now.parts.items)) }
 {
-    match node.field("value") {
+    match node.field(Field::Value) {
         Some(part) => whole_number(part),
         None => None,
     }
@@ -56,7 +47,7 @@ pub fn string_of(alloc: Global, node: &Node) -> Result<Option<ConstantValue>, Ou
         (λ value. option_map constant_view value
         ≡ option_map string (text_in (named (codes "value") node.now.kind (docs_in node.now.parts.items)))) }
 {
-    match node.field("value") {
+    match node.field(Field::Value) {
         Some(part) => text_constant(alloc, part),
         None => Ok(None),
     }
@@ -79,7 +70,7 @@ pub fn bare<'a, M: Meanings>(env: &'a M, node: &Node) -> Option<&'a ConstantValu
     ensures { option_map (λ value. constant_view value.now) result
         ≡ option_and_then ((M.env env.now).bare node.now.id.0) (text_in (named (codes "name") node.now.kind (docs_in node.now.parts.items))) }
 {
-    match text_of(node, "name") {
+    match node.text(Field::Name) {
         Some(name) => env.bare(node.id, name),
         None => None,
     }
@@ -112,8 +103,8 @@ fn property_name(node: &Node) -> Option<&str>
     ensures { option_map (λ name. name.now) result
         ≡ text_in (field_of (codes "name") (named (codes "property") node.now.kind (docs_in node.now.parts.items))) }
 {
-    match node.field("property") {
-        Some(Part::Node(property)) => text_of(property, "name"),
+    match node.field(Field::Property) {
+        Some(Part::Node(property)) => property.text(Field::Name),
         _ => None,
     }
 }
@@ -123,7 +114,7 @@ fn key_text(node: &Node) -> Option<&str>
     ensures { option_map (λ text. text.now) result
         ≡ literal_text (named (codes "expression") node.now.kind (docs_in node.now.parts.items)) }
 {
-    match node.field("expression") {
+    match node.field(Field::Expression) {
         Some(Part::Node(key)) => literal(key),
         _ => None,
     }
@@ -134,7 +125,7 @@ fn literal(node: &Node) -> Option<&str>
     ensures { option_map (λ text. text.now) result ≡ literal_text (node_doc node.now) }
 {
     if node.kind.is(Kind::StringLiteral) {
-        text_of(node, "value")
+        node.text(Field::Value)
     } else {
         None
     }
@@ -145,10 +136,10 @@ fn access<'a, M: Meanings>(env: &'a M, node: &Node, key: &str) -> Option<&'a Con
     ensures { option_map (λ value. constant_view value.now) result
         ≡ access_of (M.env env.now) (named (codes "optional") node.now.kind (docs_in node.now.parts.items)) (named (codes "object") node.now.kind (docs_in node.now.parts.items)) (Some key.now) }
 {
-    if node.flag("optional") {
+    if node.flag(Field::Optional) {
         return None;
     }
-    match node.field("object") {
+    match node.field(Field::Object) {
         Some(Part::Node(object)) => object_member(env, object, key),
         _ => None,
     }
@@ -162,7 +153,7 @@ fn object_member<'a, M: Meanings>(env: &'a M, object: &Node, key: &str) -> Optio
     if !object.kind.is(Kind::IdentifierReference) {
         return None;
     }
-    match text_of(object, "name") {
+    match object.text(Field::Name) {
         Some(name) => env.member(object.id, name, key),
         None => None,
     }

@@ -8,6 +8,7 @@ ghost use Rattle.oxt_tree.specs.View.{docs_in};
 use crate::evaluate::constant_of;
 use crate::meanings::Meanings;
 use crate::meter::TextMeter;
+use oxt_grammar::field::Field;
 use oxt_names::constant::ConstantValue;
 use oxt_names::integer::{LARGEST, apply_binary};
 use oxt_names::operator::BinaryOperator;
@@ -41,7 +42,7 @@ pub fn member_constant<M: Meanings>(
         (λ value. option_map constant_view value
         ≡ member_constant (M.env env.now) (before_view before.now) (named (codes "initializer") member.now.kind (docs_in member.now.parts.items))) }
 {
-    match member.field("initializer") {
+    match member.field(Field::Initializer) {
         None => Ok(following(before)),
         Some(Part::Nothing) => Ok(following(before)),
         Some(Part::Node(initializer)) => constant_of(alloc, env, written, initializer),
@@ -57,7 +58,7 @@ pub fn is_wide(before: &Before, member: &Node) -> bool
 {
     match before {
         Before::Behind(Some(ConstantValue::Number(number))) => {
-            member.lacks("initializer") && is_largest(*number)
+            member.lacks(Field::Initializer) && is_largest(*number)
         }
         _ => false,
     }

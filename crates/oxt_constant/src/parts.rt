@@ -5,9 +5,9 @@ ghost use Rattle.oxt_constant.specs.Operands.{operand_view};
 ghost use Rattle.oxt_tree.specs.Fields.{elements, field_of, named, text_in};
 ghost use Rattle.oxt_tree.specs.View.{docs_in, part_doc};
 
-use crate::leaf::text_of;
 use crate::meter::TextMeter;
 use crate::operand::{Operand, apply_before, apply_between, push_constant, push_text};
+use oxt_grammar::field::Field;
 use oxt_names::constant::ConstantValue;
 use oxt_names::operator::{BinaryOperator, UnaryOperator};
 use oxt_tree::ids::OutOfMemory;
@@ -19,7 +19,7 @@ pub fn unary(node: &Node, operand: &Operand) -> Option<Operand>
     ensures { option_map operand_view result
         ≡ unary_of (Some (operand_view operand.now)) (text_in (named (codes "operator") node.now.kind (docs_in node.now.parts.items))) }
 {
-    match text_of(node, "operator") {
+    match node.text(Field::Operator) {
         Some(operator) => match UnaryOperator::find(operator) {
             Some(operator) => apply_before(operator, operand),
             None => None,
@@ -40,7 +40,7 @@ pub fn binary(
         (λ value. option_map operand_view value
         ≡ binary_of (Some (operand_view left)) (Some (operand_view right.now)) (text_in (named (codes "operator") node.now.kind (docs_in node.now.parts.items)))) }
 {
-    match text_of(node, "operator") {
+    match node.text(Field::Operator) {
         Some(operator) => match BinaryOperator::find(operator) {
             Some(operator) => apply_between(alloc, written, operator, left, right),
             None => Ok(None),
@@ -60,7 +60,7 @@ pub fn template(
         (λ value. option_map operand_view value
         ≡ template_of (elements (named (codes "quasis") node.now.kind (docs_in node.now.parts.items))) (Some (constant_views values.now))) }
 {
-    match template_text(alloc, written, node.list("quasis"), values)? {
+    match template_text(alloc, written, node.list(Field::Quasis), values)? {
         Some(text) => Ok(Some(Operand::Made(text))),
         None => Ok(None),
     }
@@ -115,7 +115,7 @@ fn cooked(quasi: &Part) -> Option<&str>
         ≡ text_in (field_of (codes "cooked") (part_doc quasi.now)) }
 {
     match quasi {
-        Part::Node(element) => text_of(element, "cooked"),
+        Part::Node(element) => element.text(Field::Cooked),
         _ => None,
     }
 }

@@ -7,6 +7,7 @@ ghost use Rattle.oxt_ctx.specs.Made.{reference, with_use};
 ghost use Rattle.oxt_ctx.specs.Meant.{or_empty, symbol_meant};
 
 use crate::context::TraverseCtx;
+use oxt_grammar::field::Field;
 use oxt_names::flags::ReferenceFlags;
 use oxt_names::ids::SymbolId;
 use oxt_scoping::scoping::Scoping;
@@ -66,7 +67,7 @@ fn name_of(alloc: Global, ident: &Node) -> Result<Name, OutOfMemory>
     ensures { IfOk result (λ name. name_bytes name
         ≡ or_empty (text_in (field_in (codes "name") ident.now))) }
 {
-    match ident.field("name") {
+    match ident.field(Field::Name) {
         Some(Part::Text(name)) => name.share(),
         Some(Part::Word(word)) => Name::new(alloc, word.text()),
         _ => Name::new(alloc, ""),

@@ -6,7 +6,9 @@ ghost use Rattle.oxt_tree.specs.Names.{name_bytes};
 ghost use Rattle.oxt_tree.specs.View.{docs_in, node_doc, part_doc};
 ghost use Rattle.oxt_names.specs.Made.{is_digit};
 ghost use Rattle.oxt_ctx.specs.Text.{first_text, if_identifier, is_identifier, is_letter, is_read_inside, is_within_identifier, member_text, name_text, or_no_name, own_text};
+ghost use Rattle.oxt_grammar.specs.Keys.{key_of};
 
+use oxt_grammar::field::Field;
 use oxt_grammar::kind::Kind;
 use oxt_tree::ids::OutOfMemory;
 use oxt_tree::name::Name;
@@ -72,8 +74,8 @@ fn property_name(node: &Node) -> Option<&str>
     ensures { option_map (λ text. text.now) result
         ≡ text_in (field_of (codes "name") (named (codes "property") node.now.kind (docs_in node.now.parts.items))) }
 {
-    match node.field("property") {
-        Some(Part::Node(property)) => text_of(property, "name"),
+    match node.field(Field::Property) {
+        Some(Part::Node(property)) => property.text(Field::Name),
         _ => None,
     }
 }
@@ -92,22 +94,11 @@ fn own_text(node: &Node) -> &str
     ensures { result.now ≡ own_text node.now.kind (docs_in node.now.parts.items) }
 {
     if node.kind.is(Kind::IdentifierReference) {
-        or_no_name(text_of(node, "name"))
+        or_no_name(node.text(Field::Name))
     } else if node.kind.is(Kind::StringLiteral) {
-        if_identifier(text_of(node, "value"))
+        if_identifier(node.text(Field::Value))
     } else {
         "ref"
-    }
-}
-
-/// The text in the field of that name.
-fn text_of<'a>(node: &'a Node, name: &str) -> Option<&'a str>
-    ensures { option_map (λ text. text.now) result
-        ≡ text_in (named name.now node.now.kind (docs_in node.now.parts.items)) }
-{
-    match node.field(name) {
-        Some(part) => part.as_text(),
-        None => None,
     }
 }
 

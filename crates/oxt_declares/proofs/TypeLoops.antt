@@ -2,6 +2,7 @@
 use Rattle.std.proofs.Common.{◌≡◌, ◌∙◌, refl, sym, ap, ℕ, zero, suc, ◌+◌, ◌<◌, ◌≤◌, List, [], ◌∷◌, map, length, drop, get_or, arith, Bool, true, false, ◌&&◌, if◌then◌else◌, Option, None, Some}
 use Rattle.std.specs.List.{position_from, slice_get}
 use Rattle.std.specs.Str.{bytes_eq}
+use Rattle.oxt_grammar.specs.Keys.{key_of}
 use Rattle.oxt_grammar.specs.Field.{Field, row_view}
 use Rattle.oxt_grammar.specs.Rows.{row_of}
 use Rattle.oxt_grammar.specs.declared.holds.Row.{Row}
@@ -40,7 +41,7 @@ of_types_named name (r ∷ rs) (doc d ds) = step (bytes_eq r.name name) (of_type
     step false e = e
 
 -- The field of that name stands at the place of its row.
-field_at : (name : List ℕ) (k : Kind) (rs : List Row) (ps : List Part) (o : Option ℕ) → map row_view rs ≡ row_of k → o ≡ position_from (λ r. bytes_eq r.name.now name) 0 rs → field_of_types (docs_in ps) (row_of k) name ≡ is_of_types (doc_at ps o)
+field_at : (name : List ℕ) (k : Kind) (rs : List Row) (ps : List Part) (o : Option ℕ) → map row_view rs ≡ row_of k → o ≡ position_from (λ r. bytes_eq (key_of r.field) name) 0 rs → field_of_types (docs_in ps) (row_of k) name ≡ is_of_types (doc_at ps o)
 field_at name k rs ps o rows place = of_types_named name (row_of k) (docs_in ps) ∙ ap is_of_types (sym (named_at name k rs ps o rows place))
 
 slice_get_at : (ps : List Part) (i : ℕ) (p : Part) → i < length ps → p ≡ get_or ps i p → slice_get ps i ≡ Some p
@@ -54,17 +55,17 @@ slice_get_past (q ∷ ps) zero past = absurd (omega arith)
 slice_get_past (q ∷ ps) (suc i) past = slice_get_past ps i (omega arith)
 
 -- a field whose row and part are there
-pub field_some : (name : List ℕ) (k : Kind) (rs : List Row) (ps qs : List Part) (i : ℕ) (p : Part) → map row_view rs ≡ row_of k → Some i ≡ position_from (λ r. bytes_eq r.name.now name) 0 rs → qs ≡ ps
+pub field_some : (name : List ℕ) (k : Kind) (rs : List Row) (ps qs : List Part) (i : ℕ) (p : Part) → map row_view rs ≡ row_of k → Some i ≡ position_from (λ r. bytes_eq (key_of r.field) name) 0 rs → qs ≡ ps
     → i < length qs → p ≡ get_or qs i p → is_of_types (part_doc p) ≡ field_of_types (docs_in ps) (row_of k) name
 field_some name k rs ps qs i p rows place same within is =
     sym (field_at name k rs ps (Some i) rows place ∙ ap (λ o. is_of_types (doc_of_part o)) (ap (λ xs. slice_get xs i) (sym same) ∙ slice_get_at qs i p within is))
 
 -- a field whose part is not there
-pub field_past : (name : List ℕ) (k : Kind) (rs : List Row) (ps qs : List Part) (i : ℕ) → map row_view rs ≡ row_of k → Some i ≡ position_from (λ r. bytes_eq r.name.now name) 0 rs → qs ≡ ps
+pub field_past : (name : List ℕ) (k : Kind) (rs : List Row) (ps qs : List Part) (i : ℕ) → map row_view rs ≡ row_of k → Some i ≡ position_from (λ r. bytes_eq (key_of r.field) name) 0 rs → qs ≡ ps
     → length qs ≤ i → false ≡ field_of_types (docs_in ps) (row_of k) name
 field_past name k rs ps qs i rows place same past =
     sym (field_at name k rs ps (Some i) rows place ∙ ap (λ o. is_of_types (doc_of_part o)) (ap (λ xs. slice_get xs i) (sym same) ∙ slice_get_past qs i past))
 
 -- a field whose row is not there
-pub field_none : (name : List ℕ) (k : Kind) (rs : List Row) (ps : List Part) → map row_view rs ≡ row_of k → None ≡ position_from (λ r. bytes_eq r.name.now name) 0 rs → false ≡ field_of_types (docs_in ps) (row_of k) name
+pub field_none : (name : List ℕ) (k : Kind) (rs : List Row) (ps : List Part) → map row_view rs ≡ row_of k → None ≡ position_from (λ r. bytes_eq (key_of r.field) name) 0 rs → false ≡ field_of_types (docs_in ps) (row_of k) name
 field_none name k rs ps rows place = sym (field_at name k rs ps None rows place)

@@ -5,6 +5,7 @@ ghost use Rattle.oxt_tree.specs.Bound.{bound_names, bare_name, binds_nothing, na
 ghost use Rattle.oxt_tree.specs.View.{docs_in, field_in, node_doc, part_doc};
 ghost use Rattle.oxt_declares.specs.Bare.{bare_views};
 
+use oxt_grammar::field::Field;
 use oxt_grammar::holds::Row;
 use oxt_grammar::kind::Kind;
 use oxt_tree::ids::{NodeId, OutOfMemory};
@@ -83,7 +84,7 @@ fn push_fields<'a>(
 fn binds_nothing(row: &Row) -> bool
     ensures { result ≡ binds_nothing (row_view row.now) }
 {
-    row.name == "key" || row.name == "right"
+    row.is(Field::Key) || row.is(Field::Right)
 }
 
 /// Appends the bare name that the node is.
@@ -91,7 +92,7 @@ fn push_name<'a>(node: &'a Node, names: &mut Vec<BareName<'a>>) -> Result<(), Ou
     ensures { OnOk result (bare_views names.new.items
         ≡ bare_views names.old.items ++ bare_name node.now.id.0 (field_in (codes "name") node.now)) }
 {
-    let name = match node.field("name") {
+    let name = match node.field(Field::Name) {
         Some(Part::Text(name)) => name.as_str(),
         Some(Part::Word(word)) => word.text(),
         _ => return Ok(()),

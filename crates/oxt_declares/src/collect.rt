@@ -7,13 +7,15 @@ ghost use Rattle.oxt_tree.specs.View.{doc_or_nil, docs_in, node_doc, part_doc};
 ghost use Rattle.oxt_declares.specs.Bare.{bare_views};
 ghost use Rattle.oxt_declares.specs.Declarations.{all_declared, declared_views};
 ghost use Rattle.oxt_declares.specs.Declares.{alias_of_import, block_found, below_block, each_found, enum_name, enum_sort, found, import_sort, imported, imported_name, names_in_each, namespace_sort, own_found, own_name, variable_sort, variables, variables_for};
+ghost use Rattle.oxt_grammar.specs.Keys.{key_of};
 
 use crate::bare::BareName;
 use crate::declaration::{Declaration, Sort};
-use crate::names::{field_of, push_from_each, push_names_of};
+use crate::names::{push_from_each, push_names_of};
 use crate::role::Role;
 use crate::role_of::role_of;
 use crate::types_alone::is_of_types;
+use oxt_grammar::field::Field;
 use oxt_tree::ids::OutOfMemory;
 use oxt_tree::tree::{Node, Part};
 use std::alloc::Global;
@@ -73,17 +75,17 @@ pub fn declare_pattern<'a>(
 /// Appends the names that the field of that name binds in each of the nodes, declared so.
 pub fn declare_each<'a>(
     alloc: Global,
-    name: &str,
+    field: Field,
     parts: &'a [Part],
     sort: Sort,
     is_ambient: bool,
     out: &mut Vec<Declaration<'a>>,
 ) -> Result<(), OutOfMemory>
     ensures { OnOk result (declared_views out.new.items
-        ≡ declared_views out.old.items ++ all_declared sort is_ambient nil (names_in_each name.now (docs_in parts.now))) }
+        ≡ declared_views out.old.items ++ all_declared sort is_ambient nil (names_in_each (key_of field) (docs_in parts.now))) }
 {
     let mut names = Vec::new(alloc);
-    push_from_each(name, parts, &mut names)?;
+    push_from_each(field, parts, &mut names)?;
     declare(names.as_slice(), sort, is_ambient, None, out)
 }
 
@@ -99,9 +101,9 @@ pub fn declare_own<'a>(
 {
     declare_pattern(
         alloc,
-        node.field("id"),
+        node.field(Field::Id),
         sort,
-        node.flag("declare"),
+        node.flag(Field::Declare),
         None,
         out,
     )
@@ -226,7 +228,12 @@ fn push_in_block<'a>(
         Role::Enum => push_enum(alloc, node, out),
         Role::Namespace => declare_own(alloc, node, namespace_sort(node), out),
         Role::ImportEquals => push_alias(alloc, node, out),
-        Role::Import => push_imports(alloc, node.is_type_only(), node.list("specifiers"), out),
+        Role::Import => push_imports(
+            alloc,
+            node.is_type_only(),
+            node.list(Field::Specifiers),
+            out,
+        ),
         _ => Ok(()),
     }
 }
@@ -235,13 +242,13 @@ fn push_in_block<'a>(
 fn variable_sort(node: &Node) -> Sort
     ensures { result ≡ variable_sort (named (codes "kind") node.now.kind (docs_in node.now.parts.items)) }
 {
-    if node.holds_text("kind", "let") {
+    if node.holds_text(Field::Kind, "let") {
         Sort::Let
-    } else if node.holds_text("kind", "const") {
+    } else if node.holds_text(Field::Kind, "const") {
         Sort::Const
-    } else if node.holds_text("kind", "using") {
+    } else if node.holds_text(Field::Kind, "using") {
         Sort::Using
-    } else if node.holds_text("kind", "await using") {
+    } else if node.holds_text(Field::Kind, "await using") {
         Sort::AwaitUsing
     } else {
         Sort::Var
@@ -258,7 +265,7 @@ fn push_variables_for<'a>(
     ensures { OnOk result (declared_views out.new.items
         ≡ declared_views out.old.items ++ variables_for mode node.now.kind (docs_in node.now.parts.items)) }
 {
-    let is_hoisted = node.holds_text("kind", "var");
+    let is_hoisted = node.holds_text(Field::Kind, "var");
     match mode {
         Mode::All => push_variables(alloc, node, out),
         Mode::Lets => {
@@ -287,10 +294,10 @@ fn push_variables<'a>(
 {
     declare_each(
         alloc,
-        "id",
-        node.list("declarations"),
+        Field::Id,
+        node.list(Field::Declarations),
         variable_sort(node),
-        node.flag("declare"),
+        node.flag(Field::Declare),
         out,
     )
 }
@@ -299,7 +306,7 @@ fn push_variables<'a>(
 fn enum_sort(node: &Node) -> Sort
     ensures { result ≡ enum_sort node.now.kind (docs_in node.now.parts.items) }
 {
-    if node.flag("const") {
+    if node.flag(Field::Const) {
         Sort::ConstEnum
     } else {
         Sort::Enum
@@ -317,10 +324,10 @@ fn push_enum<'a>(
 {
     declare_pattern(
         alloc,
-        node.field("id"),
+        node.field(Field::Id),
         enum_sort(node),
-        node.flag("declare"),
-        node.field("body"),
+        node.flag(Field::Declare),
+        node.field(Field::Body),
         out,
     )
 }
@@ -329,7 +336,7 @@ fn push_enum<'a>(
 fn namespace_sort(node: &Node) -> Sort
     ensures { result ≡ namespace_sort node.now.kind (docs_in node.now.parts.items) }
 {
-    match node.field("body") {
+    match node.field(Field::Body) {
         Some(body) => namespace_sort_of(is_of_types(body)),
         None => Sort::ValueModule,
     }
@@ -395,14 +402,14 @@ fn push_import<'a>(
         ≡ declared_views out.old.items ++ imported_name is_type (part_doc part.now)) }
 {
     let sort = import_sort(is_type || is_field_type(part));
-    declare_pattern(alloc, field_of(part, "local"), sort, false, None, out)
+    declare_pattern(alloc, part.field(Field::Local), sort, false, None, out)
 }
 
 /// Whether the specifier of an import is of types alone.
 fn is_field_type(part: &Part) -> bool
     ensures { result ≡ is_text (codes "type") (field_of (codes "importKind") (part_doc part.now)) }
 {
-    match field_of(part, "importKind") {
+    match part.field(Field::ImportKind) {
         Some(part) => part.is_text("type"),
         None => false,
     }

@@ -7,9 +7,10 @@ ghost use Rattle.oxt_declares.specs.Declares.{caught, declares, each_found, func
 
 use crate::collect::{Mode, declare_each, declare_pattern, push_each};
 use crate::declaration::{Declaration, Sort};
-use crate::names::{field_of, field_within, list_of, list_within};
+use crate::names::{field_within, list_within};
 use crate::role::Role;
 use crate::role_of::role_of;
+use oxt_grammar::field::Field;
 use oxt_grammar::kind::Kind;
 use oxt_tree::ids::{NodeId, OutOfMemory};
 use oxt_tree::tree::{Node, Part};
@@ -58,7 +59,7 @@ pub fn push_declared<'a>(
         Role::FunctionExpression => push_function_expression(alloc, node, out),
         Role::Class => push_type_parameters(alloc, node, out),
         Role::ClassExpression => push_class_expression(alloc, node, out),
-        Role::Enum => push_body_members(alloc, node.field("body"), out),
+        Role::Enum => push_body_members(alloc, node.field(Field::Body), out),
         _ => Ok(()),
     }
 }
@@ -72,7 +73,7 @@ fn push_caught<'a>(
     ensures { OnOk result (declared_views out.new.items
         ≡ declared_views out.old.items ++ caught node.now.kind (docs_in node.now.parts.items)) }
 {
-    let pattern = field_within(node, "param", "pattern");
+    let pattern = field_within(node, Field::Param, Field::Pattern);
     declare_pattern(alloc, pattern, Sort::Catch, false, None, out)
 }
 
@@ -85,8 +86,8 @@ fn push_type_parameters<'a>(
     ensures { OnOk result (declared_views out.new.items
         ≡ declared_views out.old.items ++ type_parameters node.now.kind (docs_in node.now.parts.items)) }
 {
-    let parts = list_within(node, "typeParameters", "params");
-    declare_each(alloc, "name", parts, Sort::TypeParameter, false, out)
+    let parts = list_within(node, Field::TypeParameters, Field::Params);
+    declare_each(alloc, Field::Name, parts, Sort::TypeParameter, false, out)
 }
 
 /// Appends the names of the parameters.
@@ -112,8 +113,8 @@ fn push_parameters_in<'a>(
     ensures { OnOk result (declared_views out.new.items
         ≡ declared_views out.old.items ++ parameters (part_doc part.now)) }
 {
-    let items = list_of(part, "items");
-    declare_each(alloc, "pattern", items, Sort::Parameter, false, out)?;
+    let items = part.list(Field::Items);
+    declare_each(alloc, Field::Pattern, items, Sort::Parameter, false, out)?;
     let rest = rest_pattern(part);
     declare_pattern(alloc, rest, Sort::Parameter, false, None, out)
 }
@@ -122,8 +123,8 @@ fn push_parameters_in<'a>(
 fn rest_pattern<'a>(part: &'a Part) -> Option<&'a Part>
     ensures { doc_or_nil result ≡ field_of (codes "pattern") (field_of (codes "rest") (part_doc part.now)) }
 {
-    match field_of(part, "rest") {
-        Some(rest) => field_of(rest, "pattern"),
+    match part.field(Field::Rest) {
+        Some(rest) => rest.field(Field::Pattern),
         None => None,
     }
 }
@@ -138,7 +139,7 @@ fn push_function<'a>(
         ≡ declared_views out.old.items ++ function_names node.now.kind (docs_in node.now.parts.items) (each_found (docs_in node.now.parts.items))) }
 {
     push_type_parameters(alloc, node, out)?;
-    push_parameters(alloc, node.field("params"), out)?;
+    push_parameters(alloc, node.field(Field::Params), out)?;
     push_each(alloc, &node.parts, Mode::All, out)
 }
 
@@ -165,7 +166,7 @@ fn declare_inner<'a>(
     ensures { OnOk result (declared_views out.new.items
         ≡ declared_views out.old.items ++ inner_name sort node.now.kind (docs_in node.now.parts.items)) }
 {
-    declare_pattern(alloc, node.field("id"), sort, false, None, out)
+    declare_pattern(alloc, node.field(Field::Id), sort, false, None, out)
 }
 
 /// Appends what the scope of a class expression declares.
@@ -191,7 +192,7 @@ pub fn push_body_members<'a>(
         ≡ declared_views out.old.items ++ members_in (doc_or_nil body.entry)) }
 {
     match body {
-        Some(body) => push_members(list_of(body, "members"), out),
+        Some(body) => push_members(body.list(Field::Members), out),
         None => Ok(()),
     }
 }
@@ -230,17 +231,18 @@ fn push_member<'a>(part: &'a Part, out: &mut Vec<Declaration<'a>>) -> Result<(),
     Ok(())
 }
 
-fn member_name_of<'a>(node: &'a Node) -> Option<&'a str>
+/// The name of a member of an enum, if it has one.
+pub fn member_name_of<'a>(node: &'a Node) -> Option<&'a str>
     ensures { option_map (λ t. t.now) result ≡ member_name (named (codes "id") node.now.kind (docs_in node.now.parts.items)) }
 {
-    match node.field("id") {
+    match node.field(Field::Id) {
         Some(part) => member_name(part),
         None => None,
     }
 }
 
-/// The name of a member of an enum: a name, a text or a template.
-fn member_name<'a>(part: &'a Part) -> Option<&'a str>
+/// The name that the part is: a name, a text or a template.
+pub fn member_name<'a>(part: &'a Part) -> Option<&'a str>
     ensures { option_map (λ t. t.now) result ≡ member_name (part_doc part.now) }
 {
     let Part::Node(node) = part else {
@@ -266,8 +268,8 @@ pub fn text_of<'a>(part: Option<&'a Part>) -> Option<&'a str>
 fn template_text<'a>(part: &'a Part) -> Option<&'a Part>
     ensures { doc_or_nil result ≡ field_of (codes "cooked") (first (elements (field_of (codes "quasis") (part_doc part.now)))) }
 {
-    match list_of(part, "quasis").first() {
-        Some(first) => field_of(first, "cooked"),
+    match part.list(Field::Quasis).first() {
+        Some(first) => first.field(Field::Cooked),
         None => None,
     }
 }

@@ -5,36 +5,28 @@ ghost use Rattle.oxt_tree.specs.Fields.{elements, field_of, named};
 ghost use Rattle.oxt_tree.specs.View.{doc_or_nil, docs_in, part_doc};
 ghost use Rattle.oxt_declares.specs.Bare.{bare_views};
 ghost use Rattle.oxt_declares.specs.Declares.{names_in_each};
+ghost use Rattle.oxt_grammar.specs.Keys.{key_of};
 
 use crate::bare::{BareName, push_names};
+use oxt_grammar::field::Field;
 use oxt_tree::ids::OutOfMemory;
 use oxt_tree::tree::{Node, Part};
 
-/// What the field of that name of a node holds; none for anything else.
-pub fn field_of<'a>(part: &'a Part, name: &str) -> Option<&'a Part>
-    ensures { doc_or_nil result ≡ field_of name.now (part_doc part.now) }
-{
-    match part {
-        Part::Node(node) => node.field(name),
-        _ => None,
-    }
-}
-
 /// What a field of the node in a field holds.
-pub fn field_within<'a>(node: &'a Node, outer: &str, inner: &str) -> Option<&'a Part>
+pub fn field_within<'a>(node: &'a Node, outer: Field, inner: Field) -> Option<&'a Part>
     ensures { doc_or_nil result
-        ≡ field_of inner.now (named outer.now node.now.kind (docs_in node.now.parts.items)) }
+        ≡ field_of (key_of inner) (named (key_of outer) node.now.kind (docs_in node.now.parts.items)) }
 {
     match node.field(outer) {
-        Some(part) => field_of(part, inner),
+        Some(part) => part.field(inner),
         None => None,
     }
 }
 
 /// The list in a field of the node in a field.
-pub fn list_within<'a>(node: &'a Node, outer: &str, inner: &str) -> &'a [Part]
+pub fn list_within<'a>(node: &'a Node, outer: Field, inner: Field) -> &'a [Part]
     ensures { docs_in result.now
-        ≡ elements (field_of inner.now (named outer.now node.now.kind (docs_in node.now.parts.items))) }
+        ≡ elements (field_of (key_of inner) (named (key_of outer) node.now.kind (docs_in node.now.parts.items))) }
 {
     match field_within(node, outer, inner) {
         Some(part) => part.elements(),
@@ -59,36 +51,26 @@ pub fn push_names_of<'a>(
 /// Appends the names that the field of that name binds, in each of the nodes.
 #[tactic(auto, using(crate::proofs::NameLoops::each_steps))]
 pub fn push_from_each<'a>(
-    name: &str,
+    field: Field,
     parts: &'a [Part],
     names: &mut Vec<BareName<'a>>,
 ) -> Result<(), OutOfMemory>
     ensures { OnOk result (bare_views names.new.items
-        ≡ bare_views names.old.items ++ names_in_each name.now (docs_in parts.now)) }
+        ≡ bare_views names.old.items ++ names_in_each (key_of field) (docs_in parts.now)) }
 {
     for part in parts {
-        push_field(name, part, names)?;
+        push_field(field, part, names)?;
     }
     Ok(())
 }
 
 fn push_field<'a>(
-    name: &str,
+    field: Field,
     part: &'a Part,
     names: &mut Vec<BareName<'a>>,
 ) -> Result<(), OutOfMemory>
     ensures { OnOk result (bare_views names.new.items
-        ≡ bare_views names.old.items ++ bound_names (field_of name.now (part_doc part.now))) }
+        ≡ bare_views names.old.items ++ bound_names (field_of (key_of field) (part_doc part.now))) }
 {
-    push_names_of(field_of(part, name), names)
-}
-
-/// The list in the field of that name of a node; none for anything else.
-pub fn list_of<'a>(part: &'a Part, name: &str) -> &'a [Part]
-    ensures { docs_in result.now ≡ elements (field_of name.now (part_doc part.now)) }
-{
-    match field_of(part, name) {
-        Some(part) => part.elements(),
-        None => &[],
-    }
+    push_names_of(part.field(field), names)
 }

@@ -4,9 +4,11 @@ ghost use Rattle.oxt_grammar.specs.Field.{row_view};
 ghost use Rattle.oxt_tree.specs.View.{docs_in, node_doc, part_doc};
 ghost use Rattle.oxt_declares.specs.TypesAlone.{all_of_types, each_of_types, export_of_types, is_of_types, may_export, namespace_of_types};
 ghost use Rattle.oxt_tree.specs.Fields.{named};
+ghost use Rattle.oxt_grammar.specs.Keys.{key_of};
 
 use crate::role::Role;
 use crate::role_of::role_of;
+use oxt_grammar::field::Field;
 use oxt_grammar::kind::Kind;
 use oxt_tree::fields::place_of;
 use oxt_tree::tree::{Node, Part};
@@ -34,7 +36,7 @@ fn is_node_of_types(node: &Node) -> bool
         Role::ImportEquals => true,
         Role::Namespace => is_namespace_of_types(node),
         Role::Export => is_export_of_types(node),
-        Role::ModuleBlock => is_field_of_types(node, "body"),
+        Role::ModuleBlock => is_field_of_types(node, Field::Body),
         _ => false,
     }
 }
@@ -43,10 +45,10 @@ fn is_node_of_types(node: &Node) -> bool
 fn is_namespace_of_types(node: &Node) -> bool
     ensures { result ≡ namespace_of_types node.now.kind (docs_in node.now.parts.items) (each_of_types node.now) }
 {
-    if node.flag("declare") {
+    if node.flag(Field::Declare) {
         return true;
     }
-    is_field_of_types(node, "body")
+    is_field_of_types(node, Field::Body)
 }
 
 #[cycle(types)]
@@ -56,15 +58,15 @@ fn is_export_of_types(node: &Node) -> bool
     if !may_export(node) {
         return false;
     }
-    is_field_of_types(node, "declaration")
+    is_field_of_types(node, Field::Declaration)
 }
 
 fn may_export(node: &Node) -> bool
     ensures { result ≡ may_export (named (codes "declaration") node.now.kind (docs_in node.now.parts.items)) }
 {
-    node.holds_kind("declaration", Kind::TSTypeAliasDeclaration)
-        || (node.holds_kind("declaration", Kind::TSInterfaceDeclaration)
-            || node.holds_kind("declaration", Kind::TSNamespaceDeclaration))
+    node.holds_kind(Field::Declaration, Kind::TSTypeAliasDeclaration)
+        || (node.holds_kind(Field::Declaration, Kind::TSInterfaceDeclaration)
+            || node.holds_kind(Field::Declaration, Kind::TSNamespaceDeclaration))
 }
 
 #[cycle(types)]
@@ -81,10 +83,10 @@ fn all_of_types(parts: &[Part]) -> bool
 }
 
 #[cycle(types)]
-fn is_field_of_types(node: &Node, name: &str) -> bool
-    ensures { result ≡ each_of_types node.now name.now }
+fn is_field_of_types(node: &Node, field: Field) -> bool
+    ensures { result ≡ each_of_types node.now (key_of field) }
 {
-    match place_of(node.kind.rows(), name) {
+    match place_of(node.kind.rows(), field) {
         Some(place) => match node.parts.get(place) {
             Some(part) => is_of_types(part),
             None => false,

@@ -1,6 +1,7 @@
 -- Shadowed names, a part at a time.
 use Rattle.std.proofs.Common.{◌≡◌, ◌∙◌, refl, sym, ap, ℕ, ◌+◌, ◌<◌, ◌≤◌, List, [], ◌∷◌, ◌++◌, map, length, drop, get_or, append_assoc, append-nil, Option}
 use Rattle.std.proofs.lemmas.List.{map-append}
+use Rattle.oxt_grammar.specs.Keys.{key_of}
 use Rattle.oxt_enum_checks.specs.Around.{Enum}
 use Rattle.oxt_enum_checks.specs.Shadows.{Shadow, all_among, all_shadows, each_shadows, field_shadows, read_shadows, shadow_view, shadow_views, shadows}
 use Rattle.oxt_enum_checks.specs.declared.shadowed.ShadowedName.{ShadowedName}
@@ -40,13 +41,13 @@ fields_short before s a ps rs r ls i h =
     ap (λ qs. before ++ field_shadows s a (docs_in (drop i ps)) (map row_view qs) r ls) (drop_end rs i h) ∙ ap (λ os. before ++ os) (no_fields s a (drop i ps) r ls) ∙ append-nil before
 
 pub fields_next : (before after : List Shadow) (s : Scoped) (a : Enum) (ps : List Part) (rs : List Row) (r : Reading) (now ls : List Level) (i : ℕ) (p : Part) (f : Row) → i < length ps → p ≡ get_or ps i p → i < length rs → f ≡ get_or rs i f → now ≡ ls
-    → after ≡ before ++ read_shadows (way_of r f.name.now) (shadows s a (part_doc p)) now
+    → after ≡ before ++ read_shadows (way_of r (key_of f.field)) (shadows s a (part_doc p)) now
     → before ++ field_shadows s a (docs_in (drop i ps)) (map row_view (drop i rs)) r ls ≡ after ++ field_shadows s a (docs_in (drop (i + 1) ps)) (map row_view (drop (i + 1) rs)) r ls
 fields_next before after s a ps rs r now ls i p f h e k g same pushed =
     ap (λ qs. before ++ field_shadows s a (docs_in qs) (map row_view (drop i rs)) r ls) (drop_at ps i p h e)
     ∙ ap (λ qs. before ++ field_shadows s a (docs_in (p ∷ drop (i + 1) ps)) (map row_view qs) r ls) (drop_at rs i f k g)
-    ∙ sym (append_assoc before (read_shadows (way_of r f.name.now) (shadows s a (part_doc p)) ls) (field_shadows s a (docs_in (drop (i + 1) ps)) (map row_view (drop (i + 1) rs)) r ls))
-    ∙ ap (λ os. os ++ field_shadows s a (docs_in (drop (i + 1) ps)) (map row_view (drop (i + 1) rs)) r ls) (ap (λ ks. before ++ read_shadows (way_of r f.name.now) (shadows s a (part_doc p)) ks) (sym same) ∙ sym pushed)
+    ∙ sym (append_assoc before (read_shadows (way_of r (key_of f.field)) (shadows s a (part_doc p)) ls) (field_shadows s a (docs_in (drop (i + 1) ps)) (map row_view (drop (i + 1) rs)) r ls))
+    ∙ ap (λ os. os ++ field_shadows s a (docs_in (drop (i + 1) ps)) (map row_view (drop (i + 1) rs)) r ls) (ap (λ ks. before ++ read_shadows (way_of r (key_of f.field)) (shadows s a (part_doc p)) ks) (sym same) ∙ sym pushed)
 
 pub ruleset each_steps = (each_next, each_end)
 

@@ -3,6 +3,7 @@ ghost use Rattle.std.specs.Prelude.{◌≡◌, option_map};
 ghost use Rattle.oxt_enum_checks.specs.Around.{around_view, enum_in, symbol_of_name, within};
 ghost use Rattle.oxt_tree.specs.View.{doc_or_nil, docs_in};
 
+use oxt_grammar::field::Field;
 use oxt_grammar::kind::Kind;
 use oxt_names::ids::{ScopeId, SymbolId};
 use oxt_scoping::scoping::Scoping;
@@ -25,7 +26,7 @@ pub fn within(scoping: &Scoping, node: &Node, around: Option<SymbolId>) -> Optio
     ensures { result ≡ within scoping.now node.now.kind (docs_in node.now.parts.items) around }
 {
     if node.kind.is(Kind::TSEnumDeclaration) {
-        symbol_of_name(scoping, node.field("id"))
+        symbol_of_name(scoping, node.field(Field::Id))
     } else {
         around
     }

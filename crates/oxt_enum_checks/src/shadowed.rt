@@ -7,6 +7,7 @@ ghost use Rattle.oxt_tree.specs.View.{doc_or_nil, docs_in, node_doc, part_doc};
 use crate::around::{EnumAround, enum_of, within};
 use crate::misused::has_members;
 use crate::shadows::{Search, push_initializer};
+use oxt_grammar::field::Field;
 use oxt_grammar::kind::Kind;
 use oxt_names::ids::SymbolId;
 use oxt_scoping::scoping::Scoping;
@@ -146,7 +147,7 @@ fn push_member<'a>(
 {
     if node.kind.is(Kind::TSEnumMember) {
         let around = enum_of(scoping, around);
-        push_in(alloc, scoping, node.field("initializer"), around, out)
+        push_in(alloc, scoping, node.field(Field::Initializer), around, out)
     } else {
         Ok(())
     }

@@ -185,7 +185,7 @@ fn push_fields<'a>(
 {
     for (i, part) in parts.iter().enumerate() {
         match rows.get(i) {
-            Some(row) => push_read(alloc, search, part, reading.way_of(row.name), scopes, out)?,
+            Some(row) => push_read(alloc, search, part, reading.way_of(row), scopes, out)?,
             None => return Ok(()),
         }
     }

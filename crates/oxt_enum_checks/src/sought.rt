@@ -8,6 +8,7 @@ ghost use Rattle.oxt_tree.specs.View.{doc_or_nil, docs_in, node_doc};
 
 use crate::places::Places;
 use crate::sort::{is_block, sort_of};
+use oxt_grammar::field::Field;
 use oxt_grammar::holds::Row;
 use oxt_grammar::kind::Kind;
 use oxt_names::flags::SymbolFlags;
@@ -173,7 +174,7 @@ fn own_block(scoping: &Scoping, firsts: &[Option<u64>], node: &Node) -> Option<B
         ≡ own_block scoping.now firsts.now node.now.kind node.now.id.0 (docs_in node.now.parts.items) }
 {
     if is_block_kind(node.kind) {
-        block_named(scoping, firsts, node.id, node.field("id"))
+        block_named(scoping, firsts, node.id, node.field(Field::Id))
     } else {
         None
     }

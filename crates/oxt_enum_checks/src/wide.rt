@@ -5,6 +5,7 @@ ghost use Rattle.oxt_enum_checks.specs.declared.wide.WideMember.{WideMember};
 ghost use Rattle.oxt_tree.specs.View.{docs_in, node_doc, part_doc};
 
 use crate::misused::{has_members, is_member};
+use oxt_grammar::field::Field;
 use oxt_grammar::holds::Row;
 use oxt_grammar::kind::Kind;
 use oxt_names::constant::ConstantValue;
@@ -102,7 +103,7 @@ fn wide_in(scoping: &Scoping, node: &Node) -> Option<WideMember>
     ensures { result ≡ wide_in scoping.now node.now.kind (docs_in node.now.parts.items) }
 {
     if node.kind.is(Kind::TSEnumBody) {
-        wide_among(scoping, node.list("members"))
+        wide_among(scoping, node.list(Field::Members))
     } else {
         None
     }
@@ -128,7 +129,7 @@ fn is_bare(member: &Part) -> bool
     ensures { result ≡ is_bare (part_doc member.now) }
 {
     match member {
-        Part::Node(member) => member.lacks("initializer"),
+        Part::Node(member) => member.lacks(Field::Initializer),
         _ => false,
     }
 }

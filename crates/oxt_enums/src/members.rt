@@ -6,8 +6,8 @@ ghost use Rattle.oxt_enums.specs.Members.{behind, each_members, found_views, mem
 ghost use Rattle.oxt_tree.specs.Fields.{elements, field_of, first, named};
 ghost use Rattle.oxt_tree.specs.View.{doc_or_nil, docs_in, node_doc, part_doc};
 
-use oxt_declares::declares::text_of;
-use oxt_declares::names::{field_of, list_of};
+use oxt_declares::declares::member_name_of;
+use oxt_grammar::field::Field;
 use oxt_grammar::kind::Kind;
 use oxt_tree::ids::{NodeId, OutOfMemory};
 use oxt_tree::tree::{Node, Part};
@@ -101,7 +101,7 @@ fn push_own<'a>(node: &'a Node, place: Place, out: &mut Vec<Member<'a>>) -> Resu
         ≡ found_views out.old.items ++ own_member node.now.kind node.now.id.0 node.now.span.start node.now.span.end (docs_in node.now.parts.items) (spot_view place)) }
 {
     if node.kind.is(Kind::TSEnumMember) {
-        let name = name_of(node);
+        let name = member_name_of(node);
         out.push(Member { node, place, name })?;
     }
     Ok(())
@@ -142,40 +142,5 @@ impl Place {
             };
         }
         self
-    }
-}
-
-/// The name of a member: a name, a text, or the text of a template.
-fn name_of<'a>(node: &'a Node) -> Option<&'a str>
-    ensures { option_map (λ t. t.now) result
-        ≡ member_name (named (codes "id") node.now.kind (docs_in node.now.parts.items)) }
-{
-    match node.field("id") {
-        Some(part) => spelling_of(part),
-        None => None,
-    }
-}
-
-/// The spelling of such a name.
-fn spelling_of<'a>(part: &'a Part) -> Option<&'a str>
-    ensures { option_map (λ t. t.now) result ≡ member_name (part_doc part.now) }
-{
-    let Part::Node(node) = part else {
-        return None;
-    };
-    if node.kind.is(Kind::TemplateLiteral) {
-        return text_of(template_text(part));
-    }
-    text_of(node.parts.first())
-}
-
-/// The text in front of the first expression of a template, with its escapes read.
-fn template_text<'a>(part: &'a Part) -> Option<&'a Part>
-    ensures { doc_or_nil result
-        ≡ field_of (codes "cooked") (first (elements (field_of (codes "quasis") (part_doc part.now)))) }
-{
-    match list_of(part, "quasis").first() {
-        Some(first) => field_of(first, "cooked"),
-        None => None,
     }
 }

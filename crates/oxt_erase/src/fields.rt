@@ -1,6 +1,7 @@
 //! Fields that only TypeScript has.
 
 use oxt_grammar::category::Category;
+use oxt_grammar::field::Field;
 use oxt_grammar::holds::{Holds, Row};
 use oxt_grammar::kind::Kind;
 use oxt_grammar::word::Word;
@@ -49,7 +50,7 @@ fn set_default(
     row: &Row,
     part: &mut Part,
 ) -> Result<(), OutOfMemory> {
-    if droppable && is_mark(row.name) {
+    if droppable && is_mark(row) {
         return Ok(());
     }
     if row.presence.is_typescript() {
@@ -96,10 +97,10 @@ fn empty_block(alloc: Global, id: NodeId) -> Result<Node, OutOfMemory> {
     })
 }
 
-/// Whether a list knows by a field of that name what it drops.
-fn is_mark(name: &str) -> bool {
-    match name {
-        "declare" | "importKind" | "exportKind" | "value" => true,
-        _ => false,
-    }
+/// Whether a list knows by that field what it drops.
+fn is_mark(row: &Row) -> bool {
+    row.is(Field::Declare)
+        || row.is(Field::ImportKind)
+        || row.is(Field::ExportKind)
+        || row.is(Field::Value)
 }

@@ -12,6 +12,7 @@ ghost use Rattle.oxt_facts.specs.Shared.{all_shared};
 use crate::owners::NameGroups;
 use crate::privates::ClassPrivates;
 use crate::told::{Told, ToldBlock, ToldNodes};
+use oxt_grammar::field::Field;
 use oxt_grammar::kind::Kind;
 use oxt_names::uid::UidNames;
 use oxt_tree::ids::{NodeId, OutOfMemory};
@@ -374,7 +375,7 @@ fn own_binding(node: &Node) -> Option<&str>
         ≡ own_binding node.now.kind (docs_in node.now.parts.items) }
 {
     if node.kind.is(Kind::BindingIdentifier) {
-        node.field("name")?.as_text()
+        node.field(Field::Name)?.as_text()
     } else {
         None
     }

@@ -11,6 +11,7 @@ use crate::facts::Facts;
 use crate::privates::ClassPrivates;
 use crate::told::Told;
 use oxt_grammar::category::Category;
+use oxt_grammar::field::Field;
 use oxt_grammar::kind::Kind;
 use oxt_tree::ids::OutOfMemory;
 use oxt_tree::tree::{Node, Part};
@@ -40,7 +41,7 @@ fn inside_class(facts: &Facts, node: &Node) -> Result<Option<Facts>, OutOfMemory
         return Ok(None);
     }
     let mut class = ClassPrivates::new(facts.memory());
-    add_each(facts, node.list("body"), &mut class)?;
+    add_each(facts, node.list(Field::Body), &mut class)?;
     Ok(Some(facts.in_class(class)?))
 }
 
@@ -60,7 +61,7 @@ fn is_told(facts: &Facts, node: &Node) -> bool
     ensures { result ≡ is_told facts.now node.now.kind (docs_in node.now.parts.items) }
 {
     node.kind.is(Kind::ClassBody)
-        && (!facts.is_outside() || has_made_setter(facts, node.list("body")))
+        && (!facts.is_outside() || has_made_setter(facts, node.list(Field::Body)))
 }
 
 /// Whether one of the elements is a setter whose key is a made name.
@@ -120,9 +121,9 @@ fn own_private(node: &Node) -> Option<&str>
     ensures { option_map (λ name. name.now) result
         ≡ private_key (named (codes "key") node.now.kind (docs_in node.now.parts.items)) }
 {
-    match node.field("key") {
+    match node.field(Field::Key) {
         Some(Part::Node(key)) if key.kind.is(Kind::PrivateIdentifier) => key
-            .field("name")?
+            .field(Field::Name)?
             .as_text(),
         _ => None,
     }
@@ -146,8 +147,8 @@ fn own_setter<'a>(facts: &Facts, node: &'a Node) -> Option<&'a str>
         then made_key facts.now (named (codes "key") node.now.kind (docs_in node.now.parts.items))
         else None) }
 {
-    if node.kind.is(Kind::MethodDefinition) && node.holds_text("kind", "set") {
-        made_key(facts, node.field("key")?)
+    if node.kind.is(Kind::MethodDefinition) && node.holds_text(Field::Kind, "set") {
+        made_key(facts, node.field(Field::Key)?)
     } else {
         None
     }
@@ -213,7 +214,7 @@ fn made_name<'a>(facts: &Facts, node: &'a Node) -> Option<&'a str>
     ensures { option_map (λ name. name.now) result
         ≡ made_name facts.now node.now.kind (docs_in node.now.parts.items) }
 {
-    let name = node.field("name")?;
+    let name = node.field(Field::Name)?;
     if node.kind.is(Kind::IdentifierReference) && facts.is_made(name) {
         name.as_text()
     } else {

@@ -5,6 +5,7 @@ ghost use Rattle.oxt_faults.specs.Level.{LevelWordAt, found_view, level_word};
 ghost use Rattle.oxt_tree.specs.View.{doc_or_nil, docs_in, node_doc};
 
 use crate::level::{FoundWord, first_level_word, first_level_word_in};
+use oxt_grammar::field::Field;
 use oxt_grammar::holds::Row;
 use oxt_grammar::kind::Kind;
 use oxt_scoping::scoping::Scoping;
@@ -104,7 +105,7 @@ fn own_word(scoping: &Scoping, node: &Node) -> Option<FoundWord>
         ≡ own_word scoping.now node.now.kind node.now.id.0 (docs_in node.now.parts.items) }
 {
     if is_written(scoping, node) {
-        word_in(node.field("initializer"))
+        word_in(node.field(Field::Initializer))
     } else {
         None
     }

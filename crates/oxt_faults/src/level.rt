@@ -6,6 +6,7 @@ ghost use Rattle.oxt_tree.specs.View.{docs_in, node_doc};
 use crate::reach::{Reach, reach_of};
 use crate::silent::is_silent;
 use crate::word::{LevelWord, word_at};
+use oxt_grammar::field::Field;
 use oxt_grammar::holds::Row;
 use oxt_grammar::kind::Kind;
 use oxt_search::first::{first_among, first_in};
@@ -113,5 +114,5 @@ fn found_at(owns_await: bool, node: &Node) -> Option<FoundWord>
 fn owns_await(own: bool, node: &Node) -> bool
     ensures { result ≡ owns_await own node.now.kind (docs_in node.now.parts.items) }
 {
-    own || (node.kind.is(Kind::ArrowFunctionExpression) && node.flag("async"))
+    own || (node.kind.is(Kind::ArrowFunctionExpression) && node.flag(Field::Async))
 }

@@ -4,7 +4,9 @@ ghost use Rattle.std.specs.List.{list_any};
 ghost use Rattle.std.specs.Str.{bytes_eq};
 ghost use Rattle.oxt_faults.specs.Reaches.{class_parts, class_reach, element_parts, element_reach, field_reach, level_reach, method_reach, reach_named, reach_of, shown};
 ghost use Rattle.oxt_grammar.specs.Field.{row_view};
+ghost use Rattle.oxt_grammar.specs.Keys.{key_of};
 
+use oxt_grammar::field::Field;
 use oxt_grammar::holds::Row;
 use oxt_grammar::kind::Kind;
 
@@ -54,36 +56,32 @@ fn method_reach(kind: Kind, row: &Row) -> Reach
     ensures { result ≡ method_reach kind (row_view row.now) }
 {
     match kind {
-        Kind::FunctionExpression => reach_named(row, "params", Reach::Method),
-        Kind::FormalParameters => reach_named(row, "items", Reach::Method),
-        Kind::FormalParameter => reach_named(row, "decorators", Reach::Level),
+        Kind::FunctionExpression => reach_named(row, Field::Params, Reach::Method),
+        Kind::FormalParameters => reach_named(row, Field::Items, Reach::Method),
+        Kind::FormalParameter => reach_named(row, Field::Decorators, Reach::Level),
         _ => Reach::Hidden,
     }
 }
 
 /// That reach in the field of that name, and nothing in the others.
-fn reach_named(row: &Row, name: &str, reach: Reach) -> Reach
-    ensures { result ≡ reach_named name.now reach (row_view row.now) }
+fn reach_named(row: &Row, field: Field, reach: Reach) -> Reach
+    ensures { result ≡ reach_named (key_of field) reach (row_view row.now) }
 {
-    if row.name == name {
-        reach
-    } else {
-        Reach::Hidden
-    }
+    if row.is(field) { reach } else { Reach::Hidden }
 }
 
 /// In a class: its decorators, its heritage, and parts of its body.
 fn class_reach(row: &Row) -> Reach
     ensures { result ≡ class_reach (row_view row.now) }
 {
-    shown(is_class_part(row.name))
+    shown(is_class_part(row))
 }
 
 /// In a method: what stands there of any element, and the decorators of its parameters.
 fn element_reach(row: &Row) -> Reach
     ensures { result ≡ element_reach (row_view row.now) }
 {
-    if row.name == "value" {
+    if row.is(Field::Value) {
         Reach::Method
     } else {
         field_reach(row)
@@ -94,7 +92,7 @@ fn element_reach(row: &Row) -> Reach
 fn field_reach(row: &Row) -> Reach
     ensures { result ≡ field_reach (row_view row.now) }
 {
-    shown(is_element_part(row.name))
+    shown(is_element_part(row))
 }
 
 /// Code at the level, where it is one of the parts that stand there.
@@ -108,22 +106,16 @@ fn shown(is_shown: bool) -> Reach
     }
 }
 
-/// Whether it is the name of a field of a class that stands at the level around it, at least in part.
-fn is_class_part(name: &str) -> bool
-    ensures { result ≡ list_any (bytes_eq name.now) class_parts }
+/// Whether it is a field of a class that stands at the level around it, at least in part.
+fn is_class_part(row: &Row) -> bool
+    ensures { result ≡ list_any (bytes_eq (key_of row.now.field)) class_parts }
 {
-    match name {
-        "decorators" | "superClass" | "body" => true,
-        _ => false,
-    }
+    row.is(Field::Decorators) || (row.is(Field::SuperClass) || row.is(Field::Body))
 }
 
-/// Whether it is the name of a field of an element that stands at the level around the class.
-fn is_element_part(name: &str) -> bool
-    ensures { result ≡ list_any (bytes_eq name.now) element_parts }
+/// Whether it is a field of an element that stands at the level around the class.
+fn is_element_part(row: &Row) -> bool
+    ensures { result ≡ list_any (bytes_eq (key_of row.now.field)) element_parts }
 {
-    match name {
-        "decorators" | "key" => true,
-        _ => false,
-    }
+    row.is(Field::Decorators) || row.is(Field::Key)
 }

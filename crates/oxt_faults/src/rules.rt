@@ -8,6 +8,7 @@ ghost use Rattle.oxt_tree.specs.View.{docs_in};
 use crate::misplaced::MisplacedKind;
 use crate::seat::Seat;
 use oxt_grammar::category::Category;
+use oxt_grammar::field::Field;
 use oxt_grammar::kind::Kind;
 use oxt_tree::tree::Node;
 use oxt_unbuilt::dropped::is_dropped;
@@ -58,7 +59,8 @@ fn is_typescript_declaration(node: &Node) -> bool
     ensures { result
         ≡ is_typescript_declaration node.now.kind (docs_in node.now.parts.items) }
 {
-    Category::Declaration.contains(node.kind) && (node.kind.is_typescript() || node.flag("declare"))
+    Category::Declaration.contains(node.kind)
+        && (node.kind.is_typescript() || node.flag(Field::Declare))
 }
 
 /// Whether the node is a declaration in whose place a list of statements comes.
@@ -91,5 +93,5 @@ fn list_kinds() -> &'static [Kind]
 fn is_declared_variable(node: &Node) -> bool
     ensures { result ≡ is_declared_variable node.now.kind (docs_in node.now.parts.items) }
 {
-    node.kind.is(Kind::VariableDeclaration) && node.flag("declare")
+    node.kind.is(Kind::VariableDeclaration) && node.flag(Field::Declare)
 }

@@ -2,7 +2,9 @@
 ghost use Rattle.std.specs.Prelude.{◌≡◌};
 ghost use Rattle.oxt_faults.specs.Seats.{branch_seat, head_seat, seat_named, seat_of};
 ghost use Rattle.oxt_grammar.specs.Field.{row_view};
+ghost use Rattle.oxt_grammar.specs.Keys.{key_of};
 
+use oxt_grammar::field::Field;
 use oxt_grammar::holds::Row;
 use oxt_grammar::kind::Kind;
 
@@ -26,44 +28,44 @@ pub fn seat_of(kind: Kind, row: &Row) -> Seat
     ensures { result ≡ seat_of kind (row_view row.now) }
 {
     match kind {
-        Kind::LabeledStatement => seat_named(row, "body", Seat::Body),
-        Kind::WithStatement => seat_named(row, "body", Seat::Body),
+        Kind::LabeledStatement => seat_named(row, Field::Body, Seat::Body),
+        Kind::WithStatement => seat_named(row, Field::Body, Seat::Body),
         Kind::IfStatement => branch_seat(row),
-        Kind::WhileStatement => seat_named(row, "body", Seat::Branch),
-        Kind::DoWhileStatement => seat_named(row, "body", Seat::Branch),
-        Kind::ForStatement => head_seat(row, "init"),
-        Kind::ForInStatement => head_seat(row, "left"),
-        Kind::ForOfStatement => head_seat(row, "left"),
-        Kind::FormalParameter => seat_named(row, "decorators", Seat::ParameterDecorator),
+        Kind::WhileStatement => seat_named(row, Field::Body, Seat::Branch),
+        Kind::DoWhileStatement => seat_named(row, Field::Body, Seat::Branch),
+        Kind::ForStatement => head_seat(row, Field::Init),
+        Kind::ForInStatement => head_seat(row, Field::Left),
+        Kind::ForOfStatement => head_seat(row, Field::Left),
+        Kind::FormalParameter => seat_named(row, Field::Decorators, Seat::ParameterDecorator),
         _ => Seat::Other,
     }
 }
 
 /// That seat in the field of that name.
-fn seat_named(row: &Row, name: &str, seat: Seat) -> Seat
-    ensures { result ≡ seat_named name.now seat (row_view row.now) }
+fn seat_named(row: &Row, field: Field, seat: Seat) -> Seat
+    ensures { result ≡ seat_named (key_of field) seat (row_view row.now) }
 {
-    if row.name == name { seat } else { Seat::Other }
+    if row.is(field) { seat } else { Seat::Other }
 }
 
 /// The seat in a field of `if`.
 fn branch_seat(row: &Row) -> Seat
     ensures { result ≡ branch_seat (row_view row.now) }
 {
-    if row.name == "consequent" {
+    if row.is(Field::Consequent) {
         Seat::Branch
     } else {
-        seat_named(row, "alternate", Seat::Branch)
+        seat_named(row, Field::Alternate, Seat::Branch)
     }
 }
 
 /// The seat in a field of a `for` whose head has that field.
-fn head_seat(row: &Row, head: &str) -> Seat
-    ensures { result ≡ head_seat head.now (row_view row.now) }
+fn head_seat(row: &Row, head: Field) -> Seat
+    ensures { result ≡ head_seat (key_of head) (row_view row.now) }
 {
-    if row.name == head {
+    if row.is(head) {
         Seat::Head
     } else {
-        seat_named(row, "body", Seat::Branch)
+        seat_named(row, Field::Body, Seat::Branch)
     }
 }

@@ -3,6 +3,7 @@ ghost use Rattle.std.specs.Prelude.{◌≡◌};
 ghost use Rattle.oxt_faults.specs.Words.{awaited, text_of_word, where_word, word_at};
 ghost use Rattle.oxt_tree.specs.View.{docs_in};
 
+use oxt_grammar::field::Field;
 use oxt_grammar::kind::Kind;
 use oxt_tree::tree::Node;
 
@@ -47,15 +48,21 @@ pub fn word_at(owns_await: bool, node: &Node) -> Option<LevelWord>
         Kind::ThisExpression => Some(LevelWord::This),
         Kind::Super => Some(LevelWord::Super),
         Kind::MetaProperty => where_word(
-            node.holds_text("meta", "new") && node.holds_text("property", "target"),
+            node.holds_text(Field::Meta, "new") && node.holds_text(Field::Property, "target"),
             LevelWord::NewTarget,
         ),
         Kind::IdentifierReference => {
-            where_word(node.holds_text("name", "arguments"), LevelWord::Arguments)
+            where_word(
+                node.holds_text(Field::Name, "arguments"),
+                LevelWord::Arguments,
+            )
         }
         Kind::AwaitExpression => awaited(owns_await, true),
-        Kind::ForOfStatement => awaited(owns_await, node.flag("await")),
-        Kind::VariableDeclaration => awaited(owns_await, node.holds_text("kind", "await using")),
+        Kind::ForOfStatement => awaited(owns_await, node.flag(Field::Await)),
+        Kind::VariableDeclaration => awaited(
+            owns_await,
+            node.holds_text(Field::Kind, "await using"),
+        ),
         Kind::YieldExpression => Some(LevelWord::Yield),
         _ => None,
     }

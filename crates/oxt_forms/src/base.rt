@@ -5,29 +5,21 @@ ghost use Rattle.oxt_forms.specs.Made.{base_in, base_key, base_name, is_base_aga
 ghost use Rattle.oxt_tree.specs.Fields.{field_of, is_kind, named};
 ghost use Rattle.oxt_tree.specs.Inner.{seen};
 ghost use Rattle.oxt_tree.specs.View.{docs_in, doc_or_nil, node_doc, part_doc};
+ghost use Rattle.oxt_grammar.specs.Keys.{key_of};
 
 use crate::forms::{assigns_to, holds_empty_object, is_choice, same_text, within};
 use crate::made::holds_made_use;
 use oxt_facts::facts::Facts;
+use oxt_grammar::field::Field;
 use oxt_grammar::kind::Kind;
 use oxt_tree::tree::{Node, Part};
 
 /// The field of that name of the part, through wrappers and parentheses.
-fn within_part<'a>(part: &'a Part, name: &str) -> Option<&'a Part>
-    ensures { doc_or_nil result ≡ seen (field_of name.now (part_doc part.now)) }
+fn within_part<'a>(part: &'a Part, field: Field) -> Option<&'a Part>
+    ensures { doc_or_nil result ≡ seen (field_of (key_of field) (part_doc part.now)) }
 {
     match part {
-        Part::Node(node) => within(node, name),
-        _ => None,
-    }
-}
-
-/// The field of that name of the part.
-pub(crate) fn field_of<'a>(part: &'a Part, name: &str) -> Option<&'a Part>
-    ensures { doc_or_nil result ≡ field_of name.now (part_doc part.now) }
-{
-    match part {
-        Part::Node(node) => node.field(name),
+        Part::Node(node) => within(node, field),
         _ => None,
     }
 }
@@ -38,7 +30,8 @@ fn is_base_member(facts: &Facts, part: &Part) -> bool
 {
     match part {
         Part::Node(node) => {
-            has_base_key(node) && (!node.flag("optional") && holds_made_use(facts, node, "object"))
+            has_base_key(node)
+                && (!node.flag(Field::Optional) && holds_made_use(facts, node, Field::Object))
         }
         _ => false,
     }
@@ -59,7 +52,7 @@ fn holds_text_literal(node: &Node) -> bool
     ensures { result ≡ is_kind Kind.StringLiteral
         (within (codes "expression") node.now.kind (docs_in node.now.parts.items)) }
 {
-    match within(node, "expression") {
+    match within(node, Field::Expression) {
         Some(part) => part.is_kind(Kind::StringLiteral),
         None => false,
     }
@@ -69,8 +62,8 @@ fn holds_text_literal(node: &Node) -> bool
 pub fn base_name(part: &Part) -> Option<&Part>
     ensures { doc_or_nil result ≡ base_name (part_doc part.now) }
 {
-    match within_part(part, "object") {
-        Some(object) => field_of(object, "name"),
+    match within_part(part, Field::Object) {
+        Some(object) => object.field(Field::Name),
         None => None,
     }
 }
@@ -91,8 +84,8 @@ fn static_key(part: &Part) -> Option<&Part>
     ensures { doc_or_nil result
         ≡ field_of (codes "name") (field_of (codes "property") (part_doc part.now)) }
 {
-    match field_of(part, "property") {
-        Some(property) => field_of(property, "name"),
+    match part.field(Field::Property) {
+        Some(property) => property.field(Field::Name),
         None => None,
     }
 }
@@ -102,8 +95,8 @@ fn computed_key(part: &Part) -> Option<&Part>
     ensures { doc_or_nil result
         ≡ field_of (codes "value") (seen (field_of (codes "expression") (part_doc part.now))) }
 {
-    match within_part(part, "expression") {
-        Some(key) => field_of(key, "value"),
+    match within_part(part, Field::Expression) {
+        Some(key) => key.field(Field::Value),
         None => None,
     }
 }
@@ -137,8 +130,9 @@ fn makes_base(facts: &Facts, member: &Part, part: &Part) -> bool
     match part {
         Part::Node(node) => {
             node.kind.is(Kind::AssignmentExpression)
-                && (node.holds_text("operator", "=")
-                    && (assigns_base(facts, member, node) && holds_empty_object(node, "right")))
+                && (node.holds_text(Field::Operator, "=")
+                    && (assigns_base(facts, member, node)
+                        && holds_empty_object(node, Field::Right)))
         }
         _ => false,
     }
@@ -149,7 +143,7 @@ fn assigns_base(facts: &Facts, member: &Part, node: &Node) -> bool
     ensures { result ≡ is_base_again facts.now (part_doc member.now)
         (within (codes "left") node.now.kind (docs_in node.now.parts.items)) }
 {
-    match within(node, "left") {
+    match within(node, Field::Left) {
         Some(left) => is_base_again(facts, member, left),
         None => false,
     }
@@ -162,7 +156,7 @@ fn is_base_choice(facts: &Facts, part: &Part) -> bool
     match part {
         Part::Node(node) => {
             node.kind.is(Kind::LogicalExpression)
-                && (node.holds_text("operator", "||") && makes_left_base(facts, node))
+                && (node.holds_text(Field::Operator, "||") && makes_left_base(facts, node))
         }
         _ => false,
     }
@@ -174,8 +168,8 @@ fn makes_left_base(facts: &Facts, node: &Node) -> bool
         (within (codes "left") node.now.kind (docs_in node.now.parts.items))
         (within (codes "right") node.now.kind (docs_in node.now.parts.items)) }
 {
-    match within(node, "left") {
-        Some(left) => match within(node, "right") {
+    match within(node, Field::Left) {
+        Some(left) => match within(node, Field::Right) {
             Some(right) => makes_base(facts, left, right),
             None => false,
         },
@@ -190,7 +184,7 @@ fn makes_on(facts: &Facts, name: &Part, part: &Part) -> bool
     match part {
         Part::Node(node) => {
             node.kind.is(Kind::AssignmentExpression)
-                && (node.holds_text("operator", "=")
+                && (node.holds_text(Field::Operator, "=")
                     && (assigns_to(name, node) && holds_base_choice(facts, node)))
         }
         _ => false,
@@ -202,7 +196,7 @@ fn holds_base_choice(facts: &Facts, node: &Node) -> bool
     ensures { result ≡ is_base_choice facts.now
         (within (codes "right") node.now.kind (docs_in node.now.parts.items)) }
 {
-    match within(node, "right") {
+    match within(node, Field::Right) {
         Some(right) => is_base_choice(facts, right),
         None => false,
     }
@@ -221,8 +215,8 @@ fn makes_left_on(facts: &Facts, node: &Node) -> bool
         (within (codes "left") node.now.kind (docs_in node.now.parts.items))
         (within (codes "right") node.now.kind (docs_in node.now.parts.items)) }
 {
-    match within(node, "left") {
-        Some(left) => match within(node, "right") {
+    match within(node, Field::Left) {
+        Some(left) => match within(node, Field::Right) {
             Some(right) => makes_on(facts, left, right),
             None => false,
         },
@@ -234,7 +228,7 @@ fn makes_left_on(facts: &Facts, node: &Node) -> bool
 pub fn base_in(node: &Node) -> Option<&Part>
     ensures { doc_or_nil result ≡ base_in node.now.kind (docs_in node.now.parts.items) }
 {
-    match within(node, "right") {
+    match within(node, Field::Right) {
         Some(assignment) => base_of_assignment(assignment),
         None => None,
     }
@@ -244,8 +238,8 @@ pub fn base_in(node: &Node) -> Option<&Part>
 fn base_of_assignment(part: &Part) -> Option<&Part>
     ensures { doc_or_nil result ≡ seen (field_of (codes "left") (seen (field_of (codes "right") (part_doc part.now)))) }
 {
-    match within_part(part, "right") {
-        Some(choice) => within_part(choice, "left"),
+    match within_part(part, Field::Right) {
+        Some(choice) => within_part(choice, Field::Left),
         None => None,
     }
 }

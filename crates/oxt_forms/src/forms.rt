@@ -5,19 +5,21 @@ ghost use Rattle.oxt_tree.specs.Inner.{seen};
 ghost use Rattle.oxt_tree.specs.Fields.{elements, field_of, is_empty_list, is_kind, is_nil, is_set, is_text, named};
 ghost use Rattle.oxt_tree.specs.View.{docs_in, doc_or_nil, node_doc, part_doc};
 ghost use Rattle.oxt_forms.specs.Forms.{binding_of, is_argument, is_bare_list, is_bare_parameter, is_called, is_callable, is_bare_name, is_choice, is_empty_object, is_found, is_found_made, is_long, is_name_again, is_one, is_put, makes, same_text, within};
+ghost use Rattle.oxt_grammar.specs.Keys.{key_of};
 
 use oxt_facts::facts::Facts;
 use oxt_facts::item::Binding;
 use oxt_grammar::category::Category;
+use oxt_grammar::field::Field;
 use oxt_grammar::kind::Kind;
 use oxt_tree::fields::count;
 use oxt_tree::tree::{Node, Part};
 
 /// The field of that name, through wrappers and parentheses.
-pub fn within<'a>(node: &'a Node, name: &str) -> Option<&'a Part>
-    ensures { doc_or_nil result ≡ within name.now node.now.kind (docs_in node.now.parts.items) }
+pub fn within<'a>(node: &'a Node, field: Field) -> Option<&'a Part>
+    ensures { doc_or_nil result ≡ within (key_of field) node.now.kind (docs_in node.now.parts.items) }
 {
-    match node.field(name) {
+    match node.field(field) {
         Some(part) => Some(part.seen()),
         None => None,
     }
@@ -27,8 +29,8 @@ pub fn within<'a>(node: &'a Node, name: &str) -> Option<&'a Part>
 pub fn is_put(node: &Node) -> bool
     ensures { result ≡ is_put node.now.kind (docs_in node.now.parts.items) }
 {
-    node.holds_text("operator", "=")
-        && match within(node, "left") {
+    node.holds_text(Field::Operator, "=")
+        && match within(node, Field::Left) {
             Some(left) => left.is_in(Category::MemberExpression),
             None => false,
         }
@@ -38,14 +40,14 @@ pub fn is_put(node: &Node) -> bool
 pub fn is_long(node: &Node) -> bool
     ensures { result ≡ is_long node.now.kind (docs_in node.now.parts.items) }
 {
-    1 < count(node.list("expressions"))
+    1 < count(node.list(Field::Expressions))
 }
 
 /// Whether the list in the field of that name is empty.
-pub fn lists_nothing(node: &Node, name: &str) -> bool
-    ensures { result ≡ is_empty_list (named name.now node.now.kind (docs_in node.now.parts.items)) }
+pub fn lists_nothing(node: &Node, field: Field) -> bool
+    ensures { result ≡ is_empty_list (named (key_of field) node.now.kind (docs_in node.now.parts.items)) }
 {
-    match node.field(name) {
+    match node.field(field) {
         Some(Part::List(parts)) => parts.first().is_none(),
         _ => false,
     }
@@ -57,7 +59,7 @@ pub(crate) fn is_empty_object(part: &Part) -> bool
 {
     match part {
         Part::Node(node) => node.kind.is(Kind::ObjectExpression)
-            && lists_nothing(node, "properties"),
+            && lists_nothing(node, Field::Properties),
         _ => false,
     }
 }
@@ -79,8 +81,8 @@ fn same_name(a: &Node, b: &Node) -> bool
         (named (codes "name") a.now.kind (docs_in a.now.parts.items))
         (named (codes "name") b.now.kind (docs_in b.now.parts.items)) }
 {
-    match a.field("name") {
-        Some(x) => match b.field("name") {
+    match a.field(Field::Name) {
+        Some(x) => match b.field(Field::Name) {
             Some(y) => same_text(x, y),
             None => false,
         },
@@ -111,8 +113,8 @@ fn makes(name: &Part, part: &Part) -> bool
     match part {
         Part::Node(node) => {
             node.kind.is(Kind::AssignmentExpression)
-                && (node.holds_text("operator", "=")
-                    && (assigns_to(name, node) && holds_empty_object(node, "right")))
+                && (node.holds_text(Field::Operator, "=")
+                    && (assigns_to(name, node) && holds_empty_object(node, Field::Right)))
         }
         _ => false,
     }
@@ -123,18 +125,18 @@ pub(crate) fn assigns_to(name: &Part, node: &Node) -> bool
     ensures { result ≡ is_name_again (part_doc name.now)
         (within (codes "left") node.now.kind (docs_in node.now.parts.items)) }
 {
-    match within(node, "left") {
+    match within(node, Field::Left) {
         Some(left) => is_name_again(name, left),
         None => false,
     }
 }
 
 /// Whether the field of that name holds `{}`.
-pub(crate) fn holds_empty_object(node: &Node, name: &str) -> bool
+pub(crate) fn holds_empty_object(node: &Node, field: Field) -> bool
     ensures { result
-        ≡ is_empty_object (within name.now node.now.kind (docs_in node.now.parts.items)) }
+        ≡ is_empty_object (within (key_of field) node.now.kind (docs_in node.now.parts.items)) }
 {
-    match within(node, name) {
+    match within(node, field) {
         Some(part) => is_empty_object(part),
         None => false,
     }
@@ -156,8 +158,8 @@ fn is_bare_name(facts: &Facts, part: &Part) -> bool
 pub(crate) fn is_choice(facts: &Facts, node: &Node) -> bool
     ensures { result ≡ is_choice facts.now node.now.kind (docs_in node.now.parts.items) }
 {
-    node.holds_text("operator", "||")
-        && match within(node, "left") {
+    node.holds_text(Field::Operator, "||")
+        && match within(node, Field::Left) {
             Some(left) => is_bare_name(facts, left),
             None => false,
         }
@@ -167,7 +169,7 @@ pub(crate) fn is_choice(facts: &Facts, node: &Node) -> bool
 pub fn is_found(facts: &Facts, node: &Node) -> bool
     ensures { result ≡ is_found facts.now node.now.kind (docs_in node.now.parts.items) }
 {
-    is_choice(facts, node) && holds_empty_object(node, "right")
+    is_choice(facts, node) && holds_empty_object(node, Field::Right)
 }
 
 /// Whether it is `x || (x = {})`.
@@ -182,8 +184,8 @@ fn makes_left(node: &Node) -> bool
     ensures { result ≡ makes (within (codes "left") node.now.kind (docs_in node.now.parts.items))
         (within (codes "right") node.now.kind (docs_in node.now.parts.items)) }
 {
-    match within(node, "left") {
-        Some(left) => match within(node, "right") {
+    match within(node, Field::Left) {
+        Some(left) => match within(node, Field::Right) {
             Some(right) => makes(left, right),
             None => false,
         },
@@ -204,8 +206,8 @@ fn is_bare_parameter(part: &Part) -> bool
 {
     match part {
         Part::Node(node) => {
-            node.holds_kind("pattern", Kind::BindingIdentifier)
-                && (node.lacks("initializer") && lists_nothing(node, "decorators"))
+            node.holds_kind(Field::Pattern, Kind::BindingIdentifier)
+                && (node.lacks(Field::Initializer) && lists_nothing(node, Field::Decorators))
         }
         _ => false,
     }
@@ -227,7 +229,8 @@ fn is_bare_list(part: &Part) -> bool
 {
     match part {
         Part::Node(node) => {
-            node.lacks("rest") && (is_one(node.list("items")) && begins_bare(node.list("items")))
+            node.lacks(Field::Rest)
+                && (is_one(node.list(Field::Items)) && begins_bare(node.list(Field::Items)))
         }
         _ => false,
     }
@@ -238,7 +241,7 @@ fn has_bare_list(node: &Node) -> bool
     ensures { result
         ≡ is_bare_list (named (codes "params") node.now.kind (docs_in node.now.parts.items)) }
 {
-    match node.field("params") {
+    match node.field(Field::Params) {
         Some(params) => is_bare_list(params),
         None => false,
     }
@@ -252,8 +255,9 @@ fn is_callable(part: &Part) -> bool
     match part {
         Part::Node(node) => {
             node.kind.is(Kind::FunctionExpression)
-                && (node.lacks("id")
-                    && (!node.flag("async") && (!node.flag("generator") && has_bare_list(node))))
+                && (node.lacks(Field::Id)
+                    && (!node.flag(Field::Async)
+                        && (!node.flag(Field::Generator) && has_bare_list(node))))
         }
         _ => false,
     }
@@ -275,9 +279,9 @@ fn is_argument(parts: &[Part]) -> bool
 pub fn is_called(node: &Node) -> bool
     ensures { result ≡ is_called node.now.kind (docs_in node.now.parts.items) }
 {
-    !node.flag("optional")
-        && (is_argument(node.list("arguments"))
-            && match within(node, "callee") {
+    !node.flag(Field::Optional)
+        && (is_argument(node.list(Field::Arguments))
+            && match within(node, Field::Callee) {
                 Some(callee) => is_callable(callee),
                 None => false,
             })
@@ -288,13 +292,13 @@ pub fn binding_of(node: &Node) -> Binding
     ensures { result
         ≡ binding_of (named (codes "kind") node.now.kind (docs_in node.now.parts.items)) }
 {
-    if node.holds_text("kind", "let") {
+    if node.holds_text(Field::Kind, "let") {
         Binding::Let
-    } else if node.holds_text("kind", "const") {
+    } else if node.holds_text(Field::Kind, "const") {
         Binding::Const
-    } else if node.holds_text("kind", "using") {
+    } else if node.holds_text(Field::Kind, "using") {
         Binding::Using
-    } else if node.holds_text("kind", "await using") {
+    } else if node.holds_text(Field::Kind, "await using") {
         Binding::AwaitUsing
     } else {
         Binding::Var

@@ -6,10 +6,12 @@ ghost use Rattle.oxt_forms.specs.Forms.{within};
 ghost use Rattle.oxt_forms.specs.Made.{are_silent, is_keep, is_loud, is_made_binding, is_made_use, is_quiet, is_silent, is_silent_declaration, is_silent_declarator, is_told_gone};
 ghost use Rattle.oxt_tree.specs.Fields.{named};
 ghost use Rattle.oxt_tree.specs.View.{docs_in, part_doc};
+ghost use Rattle.oxt_grammar.specs.Keys.{key_of};
 
 use crate::forms::{lists_nothing, within};
 use oxt_facts::facts::Facts;
 use oxt_facts::told::Told;
+use oxt_grammar::field::Field;
 use oxt_grammar::kind::Kind;
 use oxt_tree::tree::{Node, Part};
 
@@ -28,18 +30,18 @@ fn has_made_name(facts: &Facts, node: &Node) -> bool
     ensures { result
         ≡ is_made facts.now (named (codes "name") node.now.kind (docs_in node.now.parts.items)) }
 {
-    match node.field("name") {
+    match node.field(Field::Name) {
         Some(name) => facts.is_made(name),
         None => false,
     }
 }
 
 /// Whether what stands in the field of that name is the use of a made name.
-pub(crate) fn holds_made_use(facts: &Facts, node: &Node, name: &str) -> bool
+pub(crate) fn holds_made_use(facts: &Facts, node: &Node, field: Field) -> bool
     ensures { result ≡ is_made_use facts.now
-        (within name.now node.now.kind (docs_in node.now.parts.items)) }
+        (within (key_of field) node.now.kind (docs_in node.now.parts.items)) }
 {
-    match within(node, name) {
+    match within(node, field) {
         Some(part) => is_made_use(facts, part),
         None => false,
     }
@@ -49,7 +51,7 @@ pub(crate) fn holds_made_use(facts: &Facts, node: &Node, name: &str) -> bool
 pub fn is_keep(facts: &Facts, node: &Node) -> bool
     ensures { result ≡ is_keep facts.now node.now.kind (docs_in node.now.parts.items) }
 {
-    node.holds_text("operator", "=") && holds_made_use(facts, node, "left")
+    node.holds_text(Field::Operator, "=") && holds_made_use(facts, node, Field::Left)
 }
 
 /// Whether the part is a made name as a pattern.
@@ -66,8 +68,8 @@ pub(crate) fn is_made_binding(facts: &Facts, part: &Part) -> bool
 pub fn is_silent(facts: &Facts, node: &Node) -> bool
     ensures { result ≡ is_silent facts.now node.now.kind (docs_in node.now.parts.items) }
 {
-    node.lacks("init")
-        && match node.field("id") {
+    node.lacks(Field::Init)
+        && match node.field(Field::Id) {
             Some(id) => is_made_binding(facts, id),
             None => false,
         }
@@ -97,8 +99,8 @@ fn are_silent(facts: &Facts, node: &Node) -> bool
     ensures { result ≡ are_silent facts.now
         (named (codes "declarations") node.now.kind (docs_in node.now.parts.items)) }
 {
-    !lists_nothing(node, "declarations")
-        && !is_any_loud_declarator(facts, node.list("declarations"))
+    !lists_nothing(node, Field::Declarations)
+        && !is_any_loud_declarator(facts, node.list(Field::Declarations))
 }
 
 /// Whether the part is a declaration that is read as nothing.
@@ -138,7 +140,7 @@ fn is_told_gone(facts: &Facts, part: &Part) -> bool
 pub fn is_quiet(facts: &Facts, node: &Node) -> bool
     ensures { result ≡ is_quiet facts.now node.now.kind (docs_in node.now.parts.items) }
 {
-    !is_any_loud(facts, node.list("body"))
+    !is_any_loud(facts, node.list(Field::Body))
 }
 
 /// Whether one of them is a statement that is neither an expression nor nothing.

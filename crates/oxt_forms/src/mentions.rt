@@ -6,6 +6,7 @@ ghost use Rattle.oxt_grammar.specs.declared.kind.Kind.TheVariants as kind;
 ghost use Rattle.oxt_tree.specs.Fields.{is_text, named};
 ghost use Rattle.oxt_tree.specs.View.{docs_in, node_doc, part_doc};
 
+use oxt_grammar::field::Field;
 use oxt_grammar::kind::Kind;
 use oxt_tree::tree::{Node, Part};
 
@@ -50,5 +51,5 @@ fn is_own(name: &str, node: &Node) -> bool
         && is_text name.now (named (codes "name") node.now.kind (docs_in node.now.parts.items))) }
 {
     (node.kind.is(Kind::BindingIdentifier) || node.kind.is(Kind::IdentifierReference))
-        && node.holds_text("name", name)
+        && node.holds_text(Field::Name, name)
 }

@@ -6,11 +6,11 @@ ghost use Rattle.oxt_forms.specs.Forms.{is_one};
 ghost use Rattle.oxt_tree.specs.Fields.{docs_list, elements, field_of, first, is_empty_list, is_kind, is_set, is_text, named, text_in};
 ghost use Rattle.oxt_tree.specs.View.{docs_in, doc_or_nil, part_doc};
 
-use crate::base::field_of;
 use crate::forms::{is_one, lists_nothing};
 use crate::made::{is_made_binding, is_made_use, is_silent_declaration};
 use crate::mentions::mentions;
 use oxt_facts::facts::Facts;
+use oxt_grammar::field::Field;
 use oxt_grammar::kind::Kind;
 use oxt_tree::tree::{Node, Part};
 
@@ -21,7 +21,7 @@ fn is_made_spread(facts: &Facts, part: &Part) -> bool
     match part {
         Part::Node(node) => {
             node.kind.is(Kind::SpreadElement)
-                && match node.field("argument") {
+                && match node.field(Field::Argument) {
                     Some(argument) => is_made_use(facts, argument),
                     None => false,
                 }
@@ -58,11 +58,11 @@ fn passes(facts: &Facts, node: &Node) -> bool
         && (is_one (elements (named (codes "arguments") node.now.kind (docs_in node.now.parts.items)))
         && is_made_spread facts.now (first (elements (named (codes "arguments") node.now.kind (docs_in node.now.parts.items)))))))) }
 {
-    !node.flag("optional")
-        && (!node.flag("pure")
-            && (node.holds_kind("callee", Kind::Super)
-                && (is_one(node.list("arguments"))
-                    && begins_spread(facts, node.list("arguments")))))
+    !node.flag(Field::Optional)
+        && (!node.flag(Field::Pure)
+            && (node.holds_kind(Field::Callee, Kind::Super)
+                && (is_one(node.list(Field::Arguments))
+                    && begins_spread(facts, node.list(Field::Arguments)))))
 }
 
 /// Whether the statement is `super(...p)` with a made name.
@@ -70,7 +70,7 @@ pub fn is_passing(facts: &Facts, node: &Node) -> bool
     ensures { result ≡ is_passing facts.now node.now.kind (docs_in node.now.parts.items) }
 {
     node.kind.is(Kind::ExpressionStatement)
-        && match node.field("expression") {
+        && match node.field(Field::Expression) {
             Some(expression) => is_passing_call(facts, expression),
             None => false,
         }
@@ -90,10 +90,10 @@ fn is_passing_statement(facts: &Facts, part: &Part) -> bool
 fn passed_name(part: &Part) -> Option<&Part>
     ensures { doc_or_nil result ≡ passed_name (part_doc part.now) }
 {
-    let call = field_of(part, "expression")?;
+    let call = part.field(Field::Expression)?;
     let spread = arguments_of(call).first()?;
-    let argument = field_of(spread, "argument")?;
-    field_of(argument, "name")
+    let argument = spread.field(Field::Argument)?;
+    argument.field(Field::Name)
 }
 
 /// The arguments of the call.
@@ -101,7 +101,7 @@ fn arguments_of(part: &Part) -> &[Part]
     ensures { docs_in result.now ≡ elements (field_of (codes "arguments") (part_doc part.now)) }
 {
     match part {
-        Part::Node(node) => node.list("arguments"),
+        Part::Node(node) => node.list(Field::Arguments),
         _ => &[],
     }
 }
@@ -155,8 +155,8 @@ fn passes_it(facts: &Facts, name: &str, part: &Part) -> bool
 fn rest_pattern(node: &Node) -> Option<&Part>
     ensures { doc_or_nil result ≡ rest_pattern (named (codes "params") node.now.kind (docs_in node.now.parts.items)) }
 {
-    let rest = field_of(node.field("params")?, "rest")?;
-    field_of(rest, "pattern")
+    let rest = node.field(Field::Params)?.field(Field::Rest)?;
+    rest.field(Field::Pattern)
 }
 
 /// Whether the function has the one parameter `...p` with a made name, which it passes on first of all.
@@ -176,8 +176,8 @@ fn lacks_parameters(node: &Node) -> bool
     ensures { result ≡ is_empty_list (field_of (codes "items")
         (named (codes "params") node.now.kind (docs_in node.now.parts.items))) }
 {
-    match node.field("params") {
-        Some(Part::Node(params)) => lists_nothing(params, "items"),
+    match node.field(Field::Params) {
+        Some(Part::Node(params)) => lists_nothing(params, Field::Items),
         _ => false,
     }
 }
@@ -199,7 +199,7 @@ fn name_of(part: &Part) -> Option<&str>
     ensures { option_map (λ name. name.now) result
         ≡ text_in (field_of (codes "name") (part_doc part.now)) }
 {
-    match field_of(part, "name") {
+    match part.field(Field::Name) {
         Some(name) => name.as_text(),
         None => None,
     }
@@ -210,8 +210,8 @@ fn statements_of(node: &Node) -> &[Part]
     ensures { docs_in result.now ≡ elements (field_of (codes "statements")
         (named (codes "body") node.now.kind (docs_in node.now.parts.items))) }
 {
-    match node.field("body") {
-        Some(Part::Node(body)) => body.list("statements"),
+    match node.field(Field::Body) {
+        Some(Part::Node(body)) => body.list(Field::Statements),
         _ => &[],
     }
 }

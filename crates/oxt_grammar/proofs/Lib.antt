@@ -1,2 +1,4 @@
+pub mod EachField
 pub mod EachKind
+pub mod OneField
 pub mod OneKind

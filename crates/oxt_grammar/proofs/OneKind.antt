@@ -15,7 +15,7 @@ some_same j k e = cc
 pub one_kind : (j k : Kind) → name_of j ≡ name_of k → j ≡ k
 one_kind j k e = some_same j k (sym (kind_of-name j) ∙ (ap kind_of e ∙ kind_of-name k))
 
-agreeing : (b c : Bool) → (b ≡ true → c ≡ true) → (c ≡ true → b ≡ true) → b ≡ c
+pub agreeing : (b c : Bool) → (b ≡ true → c ≡ true) → (c ≡ true → b ≡ true) → b ≡ c
 agreeing true true f g = refl
 agreeing true false f g = sym (f refl)
 agreeing false true f g = g refl

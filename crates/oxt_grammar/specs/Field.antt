@@ -1,5 +1,6 @@
 -- A field of a kind, as the grammar has it.
 use Rattle.std.specs.Prelude.{ℕ, List, Bool, true, false}
+use Rattle.oxt_grammar.specs.Keys.{key_of}
 use Rattle.oxt_grammar.specs.declared.holds.Holds.{Holds}
 use Rattle.oxt_grammar.specs.declared.holds.Presence.{Presence}
 use Rattle.oxt_grammar.specs.declared.holds.Presence.TheVariants.{Required, Optional, TypeScript}
@@ -15,7 +16,7 @@ abbrev pub field : List ℕ → Holds → Presence → Field
 field n h p = record { name = n; holds = h; presence = p }
 
 abbrev pub row_view : Row → Field
-row_view r = field r.name.now r.holds r.presence
+row_view r = field (key_of r.field) r.holds r.presence
 
 -- the field has to be there
 abbrev pub is_required : Presence → Bool

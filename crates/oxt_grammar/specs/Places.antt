@@ -1,8 +1,10 @@
 -- What may stand at a place.
 use Rattle.std.specs.Prelude.{ℕ, List, Bool, true, false, nat_le, Option, None, Some, is_some, find}
 use Rattle.std.specs.Str.{bytes_eq}
+use Rattle.oxt_grammar.specs.Keys.{key_of}
 use Rattle.oxt_grammar.specs.Kinds.{name_of}
 use Rattle.oxt_grammar.specs.Categories.{kinds_in}
+use Rattle.oxt_grammar.specs.declared.field.Field.{Field}
 use Rattle.oxt_grammar.specs.declared.kind.Kind.{Kind}
 use Rattle.oxt_grammar.specs.declared.category.Category.{Category}
 use Rattle.oxt_grammar.specs.declared.word.Words.{Words}
@@ -29,6 +31,10 @@ narrowed Elsewhere wide exported = wide
 abbrev pub narrow : Setting → Holds → Holds
 narrow s (Narrowed wide exported) = Node (narrowed s wide exported)
 narrow s h = h
+
+-- two fields are one
+abbrev pub same_field : Field → Field → Bool
+same_field f g = bytes_eq (key_of f) (key_of g)
 
 -- two kinds are one
 abbrev pub same_kind : Kind → Kind → Bool

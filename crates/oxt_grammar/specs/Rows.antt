@@ -8,6 +8,356 @@ use Rattle.oxt_grammar.specs.declared.word.Words.TheVariants as Words
 use Rattle.oxt_grammar.specs.declared.holds.Holds.TheVariants as Holds
 use Rattle.oxt_grammar.specs.declared.holds.Presence.TheVariants as Presence
 
+-- the same, behind the kinds of the parts before
+abbrev pub row_of_4 : Kind → List Field
+row_of_4 kind.TSTypeAnnotation =
+    field (codes "typeAnnotation") (Holds.Node Category.TSType) Presence.Required ∷ []
+row_of_4 kind.TSThisParameter =
+    field (codes "typeAnnotation") (Holds.NodeOrNull Category.TSTypeAnnotation) Presence.TypeScript ∷ []
+row_of_4 kind.TSTypeParameterDeclaration =
+    field (codes "params") (Holds.List Category.TSTypeParameter) Presence.Required ∷ []
+row_of_4 kind.TSTypeParameter =
+    field (codes "name") (Holds.Node Category.BindingIdentifier) Presence.Required ∷ []
+row_of_4 kind.TSTypeReference =
+    field (codes "typeName") (Holds.Node Category.TSTypeName) Presence.Required ∷ []
+row_of_4 kind.TSUnionType =
+    field (codes "types") (Holds.List Category.TSType) Presence.Required ∷ []
+row_of_4 kind.TSIntersectionType =
+    field (codes "types") (Holds.List Category.TSType) Presence.Required ∷ []
+row_of_4 kind.TSConditionalType =
+    field (codes "trueType") (Holds.Node Category.TSType) Presence.Required ∷
+    field (codes "falseType") (Holds.Node Category.TSType) Presence.Required ∷ []
+row_of_4 kind.TSTypeOperator =
+    field (codes "operator") (Holds.Word Words.TypeOperator) Presence.Required ∷
+    field (codes "typeAnnotation") (Holds.Node Category.TSType) Presence.Required ∷ []
+row_of_4 kind.TSParenthesizedType =
+    field (codes "typeAnnotation") (Holds.Node Category.TSType) Presence.Required ∷ []
+row_of_4 kind.JSDocNullableType =
+    field (codes "typeAnnotation") (Holds.Node Category.TSType) Presence.Required ∷ []
+row_of_4 kind.JSDocNonNullableType =
+    field (codes "typeAnnotation") (Holds.Node Category.TSType) Presence.Required ∷ []
+row_of_4 kind.TSTypePredicate =
+    field (codes "asserts") Holds.Flag Presence.Optional ∷ []
+row_of_4 kind.TSLiteralType =
+    field (codes "literal") (Holds.Node Category.TSLiteral) Presence.Required ∷ []
+row_of_4 kind.TSVoidKeyword = []
+row_of_4 kind.TSUndefinedKeyword = []
+row_of_4 kind.TSNullKeyword = []
+row_of_4 kind.TSNeverKeyword = []
+row_of_4 kind.TSBooleanKeyword = []
+row_of_4 kind.TSStringKeyword = []
+row_of_4 kind.TSNumberKeyword = []
+row_of_4 kind.TSBigIntKeyword = []
+row_of_4 kind.TSSymbolKeyword = []
+row_of_4 kind.TSObjectKeyword = []
+row_of_4 kind.TSAnyKeyword = []
+row_of_4 kind.TSUnknownKeyword = []
+row_of_4 kind.TSIntrinsicKeyword = []
+row_of_4 kind.TSFunctionType = []
+row_of_4 kind.TSConstructorType = []
+row_of_4 kind.TSArrayType = []
+row_of_4 kind.TSTupleType = []
+row_of_4 kind.TSNamedTupleMember = []
+row_of_4 kind.TSOptionalType = []
+row_of_4 kind.TSRestType = []
+row_of_4 kind.TSTemplateLiteralType = []
+row_of_4 kind.TSTypeQuery = []
+row_of_4 kind.TSIndexedAccessType = []
+row_of_4 kind.TSMappedType = []
+row_of_4 kind.TSTypeLiteral = []
+row_of_4 kind.TSThisType = []
+row_of_4 kind.TSImportType = []
+row_of_4 kind.TSInferType = []
+row_of_4 kind.JSDocUnknownType = []
+row_of_4 kind.TSTypeParameterInstantiation = []
+row_of_4 kind.TSClassImplements = []
+row_of_4 kind.TSIndexSignature = []
+row_of_4 k = []
+
+-- the same, behind the kinds of the parts before
+abbrev pub row_of_3 : Kind → List Field
+row_of_3 kind.AwaitExpression =
+    field (codes "argument") (Holds.Node Category.Expression) Presence.Required ∷ []
+row_of_3 kind.YieldExpression =
+    field (codes "delegate") Holds.Flag Presence.Optional ∷
+    field (codes "argument") (Holds.NodeOrNull Category.Expression) Presence.Optional ∷ []
+row_of_3 kind.TSAsExpression =
+    field (codes "expression") (Holds.Node Category.Expression) Presence.Required ∷
+    field (codes "typeAnnotation") (Holds.Node Category.TSType) Presence.Required ∷ []
+row_of_3 kind.TSSatisfiesExpression =
+    field (codes "expression") (Holds.Node Category.Expression) Presence.Required ∷
+    field (codes "typeAnnotation") (Holds.Node Category.TSType) Presence.Required ∷ []
+row_of_3 kind.TSTypeAssertion =
+    field (codes "expression") (Holds.Node Category.Expression) Presence.Required ∷
+    field (codes "typeAnnotation") (Holds.Node Category.TSType) Presence.Required ∷ []
+row_of_3 kind.TSNonNullExpression =
+    field (codes "expression") (Holds.Node Category.Expression) Presence.Required ∷ []
+row_of_3 kind.TSInstantiationExpression =
+    field (codes "expression") (Holds.Node Category.Expression) Presence.Required ∷
+    field (codes "typeArguments") (Holds.Node Category.TSTypeParameterInstantiation) Presence.Required ∷ []
+row_of_3 kind.JSXElement =
+    field (codes "openingElement") (Holds.Node Category.JSXOpeningElement) Presence.Required ∷
+    field (codes "children") (Holds.List Category.JSXChild) Presence.Optional ∷
+    field (codes "closingElement") (Holds.NodeOrNull Category.JSXClosingElement) Presence.Optional ∷ []
+row_of_3 kind.JSXFragment =
+    field (codes "children") (Holds.List Category.JSXChild) Presence.Optional ∷ []
+row_of_3 kind.JSXOpeningElement =
+    field (codes "name") (Holds.Node Category.JSXElementName) Presence.Required ∷
+    field (codes "typeArguments") (Holds.NodeOrNull Category.TSTypeParameterInstantiation) Presence.TypeScript ∷
+    field (codes "attributes") (Holds.List Category.JSXAttributeItem) Presence.Optional ∷ []
+row_of_3 kind.JSXClosingElement =
+    field (codes "name") (Holds.Node Category.JSXElementName) Presence.Required ∷ []
+row_of_3 kind.JSXIdentifier =
+    field (codes "name") Holds.Text Presence.Required ∷ []
+row_of_3 kind.JSXNamespacedName =
+    field (codes "namespace") Holds.Text Presence.Required ∷
+    field (codes "name") Holds.Text Presence.Required ∷ []
+row_of_3 kind.JSXMemberExpression =
+    field (codes "object") (Holds.Node Category.JSXElementName) Presence.Required ∷
+    field (codes "property") Holds.Text Presence.Required ∷ []
+row_of_3 kind.JSXAttribute =
+    field (codes "name") (Holds.Node Category.JSXAttributeName) Presence.Required ∷
+    field (codes "value") (Holds.NodeOrNull Category.JSXAttributeValue) Presence.Optional ∷ []
+row_of_3 kind.JSXSpreadAttribute =
+    field (codes "argument") (Holds.Node Category.Expression) Presence.Required ∷ []
+row_of_3 kind.JSXExpressionContainer =
+    field (codes "expression") (Holds.Node Category.JSXExpression) Presence.Required ∷ []
+row_of_3 kind.JSXEmptyExpression = []
+row_of_3 kind.JSXSpreadChild =
+    field (codes "expression") (Holds.Node Category.Expression) Presence.Required ∷ []
+row_of_3 kind.JSXText =
+    field (codes "value") Holds.Text Presence.Required ∷ []
+row_of_3 kind.ImportDeclaration =
+    field (codes "importKind") (Holds.Word Words.TypeOrValue) Presence.TypeScript ∷
+    field (codes "phase") (Holds.WordOrNull Words.Phase) Presence.Optional ∷
+    field (codes "specifiers") (Holds.ListOrNull Category.ImportDeclarationSpecifier) Presence.Optional ∷
+    field (codes "source") (Holds.Node Category.StringLiteral) Presence.Required ∷
+    field (codes "withClause") (Holds.NodeOrNull Category.WithClause) Presence.Optional ∷ []
+row_of_3 kind.ImportSpecifier =
+    field (codes "importKind") (Holds.Word Words.TypeOrValue) Presence.TypeScript ∷
+    field (codes "imported") (Holds.Node Category.ModuleExportName) Presence.Required ∷
+    field (codes "local") (Holds.Node Category.BindingIdentifier) Presence.Required ∷ []
+row_of_3 kind.ImportDefaultSpecifier =
+    field (codes "local") (Holds.Node Category.BindingIdentifier) Presence.Required ∷ []
+row_of_3 kind.ImportNamespaceSpecifier =
+    field (codes "local") (Holds.Node Category.BindingIdentifier) Presence.Required ∷ []
+row_of_3 kind.WithClause =
+    field (codes "entries") (Holds.List Category.ImportAttribute) Presence.Optional ∷ []
+row_of_3 kind.ImportAttribute =
+    field (codes "key") (Holds.Node Category.ImportAttributeKey) Presence.Required ∷
+    field (codes "value") (Holds.Node Category.StringLiteral) Presence.Required ∷ []
+row_of_3 kind.ExportDeclaration =
+    field (codes "declaration") (Holds.Node Category.Declaration) Presence.Required ∷ []
+row_of_3 kind.ExportNamedDeclaration =
+    field (codes "exportKind") (Holds.Word Words.TypeOrValue) Presence.TypeScript ∷
+    field (codes "specifiers") (Holds.List Category.ExportSpecifier) Presence.Optional ∷ []
+row_of_3 kind.ExportFromDeclaration =
+    field (codes "exportKind") (Holds.Word Words.TypeOrValue) Presence.TypeScript ∷
+    field (codes "specifiers") (Holds.List Category.ExportSpecifier) Presence.Optional ∷
+    field (codes "source") (Holds.Node Category.StringLiteral) Presence.Required ∷
+    field (codes "withClause") (Holds.NodeOrNull Category.WithClause) Presence.Optional ∷ []
+row_of_3 kind.ExportAllDeclaration =
+    field (codes "exportKind") (Holds.Word Words.TypeOrValue) Presence.TypeScript ∷
+    field (codes "exported") (Holds.NodeOrNull Category.ModuleExportName) Presence.Optional ∷
+    field (codes "source") (Holds.Node Category.StringLiteral) Presence.Required ∷
+    field (codes "withClause") (Holds.NodeOrNull Category.WithClause) Presence.Optional ∷ []
+row_of_3 kind.ExportDefaultDeclaration =
+    field (codes "declaration") (Holds.Node Category.ExportDefaultDeclarationKind) Presence.Required ∷ []
+row_of_3 kind.ExportSpecifier =
+    field (codes "exportKind") (Holds.Word Words.TypeOrValue) Presence.TypeScript ∷
+    field (codes "local") (Holds.Narrowed Category.ModuleExportName Category.IdentifierReference) Presence.Required ∷
+    field (codes "exported") (Holds.Node Category.ModuleExportName) Presence.Required ∷ []
+row_of_3 kind.TSExportAssignment =
+    field (codes "expression") (Holds.Node Category.Expression) Presence.Required ∷ []
+row_of_3 kind.TSNamespaceExportDeclaration =
+    field (codes "id") (Holds.Node Category.IdentifierName) Presence.Required ∷ []
+row_of_3 kind.TSTypeAliasDeclaration =
+    field (codes "id") (Holds.Node Category.BindingIdentifier) Presence.Required ∷
+    field (codes "declare") Holds.Flag Presence.TypeScript ∷ []
+row_of_3 kind.TSInterfaceDeclaration =
+    field (codes "id") (Holds.Node Category.BindingIdentifier) Presence.Required ∷
+    field (codes "declare") Holds.Flag Presence.TypeScript ∷ []
+row_of_3 kind.TSEnumDeclaration =
+    field (codes "id") (Holds.Node Category.BindingIdentifier) Presence.Required ∷
+    field (codes "const") Holds.Flag Presence.Optional ∷
+    field (codes "declare") Holds.Flag Presence.TypeScript ∷
+    field (codes "body") (Holds.Node Category.TSEnumBody) Presence.Required ∷ []
+row_of_3 kind.TSEnumBody =
+    field (codes "members") (Holds.List Category.TSEnumMember) Presence.Required ∷ []
+row_of_3 kind.TSEnumMember =
+    field (codes "id") (Holds.Node Category.TSEnumMemberName) Presence.Required ∷
+    field (codes "computed") Holds.Flag Presence.Optional ∷
+    field (codes "initializer") (Holds.NodeOrNull Category.Expression) Presence.Optional ∷ []
+row_of_3 kind.TSNamespaceDeclaration =
+    field (codes "id") (Holds.Node Category.BindingIdentifier) Presence.Required ∷
+    field (codes "kind") (Holds.Word Words.NamespaceKind) Presence.Optional ∷
+    field (codes "declare") Holds.Flag Presence.TypeScript ∷
+    field (codes "body") (Holds.Node Category.TSNamespaceDeclarationBody) Presence.Required ∷ []
+row_of_3 kind.TSModuleBlock =
+    field (codes "directives") (Holds.List Category.Directive) Presence.Optional ∷
+    field (codes "body") (Holds.List Category.Item) Presence.Required ∷ []
+row_of_3 kind.TSExternalModuleDeclaration =
+    field (codes "id") (Holds.Node Category.StringLiteral) Presence.Required ∷
+    field (codes "declare") Holds.Flag Presence.TypeScript ∷
+    field (codes "body") (Holds.NodeOrNull Category.TSModuleBlock) Presence.Optional ∷ []
+row_of_3 kind.TSGlobalDeclaration =
+    field (codes "declare") Holds.Flag Presence.TypeScript ∷
+    field (codes "body") (Holds.Node Category.TSModuleBlock) Presence.Required ∷ []
+row_of_3 kind.TSImportEqualsDeclaration =
+    field (codes "importKind") (Holds.Word Words.TypeOrValue) Presence.TypeScript ∷
+    field (codes "id") (Holds.Node Category.BindingIdentifier) Presence.Required ∷
+    field (codes "moduleReference") (Holds.Node Category.TSModuleReference) Presence.Required ∷ []
+row_of_3 kind.TSExternalModuleReference =
+    field (codes "expression") (Holds.Node Category.StringLiteral) Presence.Required ∷ []
+row_of_3 kind.TSQualifiedName =
+    field (codes "left") (Holds.Node Category.TSTypeName) Presence.Required ∷
+    field (codes "right") (Holds.Node Category.IdentifierName) Presence.Required ∷ []
+row_of_3 k = row_of_4 k
+
+-- the same, behind the kinds of the parts before
+abbrev pub row_of_2 : Kind → List Field
+row_of_2 kind.IdentifierReference =
+    field (codes "name") Holds.Text Presence.Required ∷ []
+row_of_2 kind.IdentifierName =
+    field (codes "name") Holds.Text Presence.Required ∷ []
+row_of_2 kind.PrivateIdentifier =
+    field (codes "name") Holds.Text Presence.Required ∷ []
+row_of_2 kind.ObjectPattern =
+    field (codes "properties") (Holds.List Category.BindingProperty) Presence.Required ∷
+    field (codes "rest") (Holds.NodeOrNull Category.BindingRestElement) Presence.Optional ∷ []
+row_of_2 kind.ArrayPattern =
+    field (codes "elements") (Holds.ListOfNullable Category.Pattern) Presence.Required ∷
+    field (codes "rest") (Holds.NodeOrNull Category.BindingRestElement) Presence.Optional ∷ []
+row_of_2 kind.BindingProperty =
+    field (codes "key") (Holds.Node Category.PropertyKey) Presence.Required ∷
+    field (codes "computed") Holds.Flag Presence.Optional ∷
+    field (codes "shorthand") Holds.Flag Presence.Optional ∷
+    field (codes "value") (Holds.Node Category.Pattern) Presence.Required ∷ []
+row_of_2 kind.BindingRestElement =
+    field (codes "argument") (Holds.Node Category.Pattern) Presence.Required ∷ []
+row_of_2 kind.AssignmentPattern =
+    field (codes "left") (Holds.Node Category.Pattern) Presence.Required ∷
+    field (codes "right") (Holds.Node Category.Expression) Presence.Required ∷ []
+row_of_2 kind.ArrayAssignmentTarget =
+    field (codes "elements") (Holds.ListOfNullable Category.AssignmentTargetMaybeDefault) Presence.Required ∷
+    field (codes "rest") (Holds.NodeOrNull Category.AssignmentTargetRest) Presence.Optional ∷ []
+row_of_2 kind.ObjectAssignmentTarget =
+    field (codes "properties") (Holds.List Category.AssignmentTargetProperty) Presence.Required ∷
+    field (codes "rest") (Holds.NodeOrNull Category.AssignmentTargetRest) Presence.Optional ∷ []
+row_of_2 kind.AssignmentTargetPropertyIdentifier =
+    field (codes "binding") (Holds.Node Category.IdentifierReference) Presence.Required ∷
+    field (codes "init") (Holds.NodeOrNull Category.Expression) Presence.Optional ∷ []
+row_of_2 kind.AssignmentTargetPropertyProperty =
+    field (codes "name") (Holds.Node Category.PropertyKey) Presence.Required ∷
+    field (codes "computed") Holds.Flag Presence.Optional ∷
+    field (codes "binding") (Holds.Node Category.AssignmentTargetMaybeDefault) Presence.Required ∷ []
+row_of_2 kind.AssignmentTargetRest =
+    field (codes "target") (Holds.Node Category.AssignmentTarget) Presence.Required ∷ []
+row_of_2 kind.AssignmentTargetWithDefault =
+    field (codes "binding") (Holds.Node Category.AssignmentTarget) Presence.Required ∷
+    field (codes "init") (Holds.Node Category.Expression) Presence.Required ∷ []
+row_of_2 kind.BooleanLiteral =
+    field (codes "value") Holds.Flag Presence.Required ∷ []
+row_of_2 kind.NullLiteral = []
+row_of_2 kind.ThisExpression = []
+row_of_2 kind.Super = []
+row_of_2 kind.NumericLiteral =
+    field (codes "value") Holds.WholeOrNull Presence.Optional ∷
+    field (codes "raw") Holds.TextOrNull Presence.Optional ∷ []
+row_of_2 kind.StringLiteral =
+    field (codes "value") Holds.Text Presence.Required ∷
+    field (codes "raw") Holds.TextOrNull Presence.Optional ∷ []
+row_of_2 kind.BigIntLiteral =
+    field (codes "raw") Holds.Text Presence.Required ∷ []
+row_of_2 kind.RegExpLiteral =
+    field (codes "pattern") Holds.Text Presence.Required ∷
+    field (codes "flags") Holds.Text Presence.Required ∷ []
+row_of_2 kind.MetaProperty =
+    field (codes "meta") Holds.Text Presence.Required ∷
+    field (codes "property") Holds.Text Presence.Required ∷ []
+row_of_2 kind.TemplateLiteral =
+    field (codes "quasis") (Holds.List Category.TemplateElement) Presence.Required ∷
+    field (codes "expressions") (Holds.List Category.Expression) Presence.Optional ∷ []
+row_of_2 kind.TemplateElement =
+    field (codes "raw") Holds.Text Presence.Required ∷
+    field (codes "cooked") Holds.TextOrNull Presence.Optional ∷ []
+row_of_2 kind.TaggedTemplateExpression =
+    field (codes "tag") (Holds.Node Category.Expression) Presence.Required ∷
+    field (codes "typeArguments") (Holds.NodeOrNull Category.TSTypeParameterInstantiation) Presence.TypeScript ∷
+    field (codes "quasi") (Holds.Node Category.TemplateLiteral) Presence.Required ∷ []
+row_of_2 kind.ArrayExpression =
+    field (codes "elements") (Holds.ListOfNullable Category.Argument) Presence.Required ∷ []
+row_of_2 kind.ObjectExpression =
+    field (codes "properties") (Holds.List Category.ObjectPropertyKind) Presence.Required ∷ []
+row_of_2 kind.SpreadElement =
+    field (codes "argument") (Holds.Node Category.Expression) Presence.Required ∷ []
+row_of_2 kind.ObjectProperty =
+    field (codes "kind") (Holds.Word Words.PropertyKind) Presence.Optional ∷
+    field (codes "key") (Holds.Node Category.PropertyKey) Presence.Required ∷
+    field (codes "computed") Holds.Flag Presence.Optional ∷
+    field (codes "method") Holds.Flag Presence.Optional ∷
+    field (codes "shorthand") Holds.Flag Presence.Optional ∷
+    field (codes "value") (Holds.Node Category.Expression) Presence.Required ∷ []
+row_of_2 kind.AssignmentExpression =
+    field (codes "operator") Holds.Text Presence.Required ∷
+    field (codes "left") (Holds.Node Category.AssignmentTarget) Presence.Required ∷
+    field (codes "right") (Holds.Node Category.Expression) Presence.Required ∷ []
+row_of_2 kind.BinaryExpression =
+    field (codes "operator") Holds.Text Presence.Required ∷
+    field (codes "left") (Holds.Node Category.Expression) Presence.Required ∷
+    field (codes "right") (Holds.Node Category.Expression) Presence.Required ∷ []
+row_of_2 kind.LogicalExpression =
+    field (codes "operator") Holds.Text Presence.Required ∷
+    field (codes "left") (Holds.Node Category.Expression) Presence.Required ∷
+    field (codes "right") (Holds.Node Category.Expression) Presence.Required ∷ []
+row_of_2 kind.UnaryExpression =
+    field (codes "operator") Holds.Text Presence.Required ∷
+    field (codes "argument") (Holds.Node Category.Expression) Presence.Required ∷ []
+row_of_2 kind.UpdateExpression =
+    field (codes "operator") (Holds.Word Words.UpdateOperator) Presence.Required ∷
+    field (codes "prefix") Holds.Flag Presence.Optional ∷
+    field (codes "argument") (Holds.Node Category.SimpleAssignmentTarget) Presence.Required ∷ []
+row_of_2 kind.ConditionalExpression =
+    field (codes "test") (Holds.Node Category.Expression) Presence.Required ∷
+    field (codes "consequent") (Holds.Node Category.Expression) Presence.Required ∷
+    field (codes "alternate") (Holds.Node Category.Expression) Presence.Required ∷ []
+row_of_2 kind.SequenceExpression =
+    field (codes "expressions") (Holds.List Category.Expression) Presence.Required ∷ []
+row_of_2 kind.ParenthesizedExpression =
+    field (codes "expression") (Holds.Node Category.Expression) Presence.Required ∷ []
+row_of_2 kind.CallExpression =
+    field (codes "callee") (Holds.Node Category.Expression) Presence.Required ∷
+    field (codes "typeArguments") (Holds.NodeOrNull Category.TSTypeParameterInstantiation) Presence.TypeScript ∷
+    field (codes "arguments") (Holds.List Category.Argument) Presence.Required ∷
+    field (codes "optional") Holds.Flag Presence.Optional ∷
+    field (codes "pure") Holds.Flag Presence.Optional ∷ []
+row_of_2 kind.NewExpression =
+    field (codes "callee") (Holds.Node Category.Expression) Presence.Required ∷
+    field (codes "typeArguments") (Holds.NodeOrNull Category.TSTypeParameterInstantiation) Presence.TypeScript ∷
+    field (codes "arguments") (Holds.List Category.Argument) Presence.Required ∷
+    field (codes "pure") Holds.Flag Presence.Optional ∷ []
+row_of_2 kind.ImportExpression =
+    field (codes "source") (Holds.Node Category.Expression) Presence.Required ∷
+    field (codes "options") (Holds.NodeOrNull Category.Expression) Presence.Optional ∷ []
+row_of_2 kind.StaticMemberExpression =
+    field (codes "object") (Holds.Node Category.Expression) Presence.Required ∷
+    field (codes "property") (Holds.Node Category.IdentifierName) Presence.Required ∷
+    field (codes "optional") Holds.Flag Presence.Optional ∷ []
+row_of_2 kind.ComputedMemberExpression =
+    field (codes "object") (Holds.Node Category.Expression) Presence.Required ∷
+    field (codes "expression") (Holds.Node Category.Expression) Presence.Required ∷
+    field (codes "optional") Holds.Flag Presence.Optional ∷ []
+row_of_2 kind.PrivateFieldExpression =
+    field (codes "object") (Holds.Node Category.Expression) Presence.Required ∷
+    field (codes "field") (Holds.Node Category.PrivateIdentifier) Presence.Required ∷
+    field (codes "optional") Holds.Flag Presence.Optional ∷ []
+row_of_2 kind.PrivateInExpression =
+    field (codes "left") (Holds.Node Category.PrivateIdentifier) Presence.Required ∷
+    field (codes "right") (Holds.Node Category.Expression) Presence.Required ∷ []
+row_of_2 kind.ChainExpression =
+    field (codes "expression") (Holds.Node Category.ChainElement) Presence.Required ∷ []
+row_of_2 k = row_of_3 k
+
 -- the fields of a node of a kind, in the order in which they are checked
 unfoldable pub row_of : Kind → List Field
 row_of kind.Program =
@@ -243,341 +593,4 @@ row_of kind.Decorator =
     field (codes "expression") (Holds.Node Category.Expression) Presence.Required ∷ []
 row_of kind.BindingIdentifier =
     field (codes "name") Holds.Text Presence.Required ∷ []
-row_of kind.IdentifierReference =
-    field (codes "name") Holds.Text Presence.Required ∷ []
-row_of kind.IdentifierName =
-    field (codes "name") Holds.Text Presence.Required ∷ []
-row_of kind.PrivateIdentifier =
-    field (codes "name") Holds.Text Presence.Required ∷ []
-row_of kind.ObjectPattern =
-    field (codes "properties") (Holds.List Category.BindingProperty) Presence.Required ∷
-    field (codes "rest") (Holds.NodeOrNull Category.BindingRestElement) Presence.Optional ∷ []
-row_of kind.ArrayPattern =
-    field (codes "elements") (Holds.ListOfNullable Category.Pattern) Presence.Required ∷
-    field (codes "rest") (Holds.NodeOrNull Category.BindingRestElement) Presence.Optional ∷ []
-row_of kind.BindingProperty =
-    field (codes "key") (Holds.Node Category.PropertyKey) Presence.Required ∷
-    field (codes "computed") Holds.Flag Presence.Optional ∷
-    field (codes "shorthand") Holds.Flag Presence.Optional ∷
-    field (codes "value") (Holds.Node Category.Pattern) Presence.Required ∷ []
-row_of kind.BindingRestElement =
-    field (codes "argument") (Holds.Node Category.Pattern) Presence.Required ∷ []
-row_of kind.AssignmentPattern =
-    field (codes "left") (Holds.Node Category.Pattern) Presence.Required ∷
-    field (codes "right") (Holds.Node Category.Expression) Presence.Required ∷ []
-row_of kind.ArrayAssignmentTarget =
-    field (codes "elements") (Holds.ListOfNullable Category.AssignmentTargetMaybeDefault) Presence.Required ∷
-    field (codes "rest") (Holds.NodeOrNull Category.AssignmentTargetRest) Presence.Optional ∷ []
-row_of kind.ObjectAssignmentTarget =
-    field (codes "properties") (Holds.List Category.AssignmentTargetProperty) Presence.Required ∷
-    field (codes "rest") (Holds.NodeOrNull Category.AssignmentTargetRest) Presence.Optional ∷ []
-row_of kind.AssignmentTargetPropertyIdentifier =
-    field (codes "binding") (Holds.Node Category.IdentifierReference) Presence.Required ∷
-    field (codes "init") (Holds.NodeOrNull Category.Expression) Presence.Optional ∷ []
-row_of kind.AssignmentTargetPropertyProperty =
-    field (codes "name") (Holds.Node Category.PropertyKey) Presence.Required ∷
-    field (codes "computed") Holds.Flag Presence.Optional ∷
-    field (codes "binding") (Holds.Node Category.AssignmentTargetMaybeDefault) Presence.Required ∷ []
-row_of kind.AssignmentTargetRest =
-    field (codes "target") (Holds.Node Category.AssignmentTarget) Presence.Required ∷ []
-row_of kind.AssignmentTargetWithDefault =
-    field (codes "binding") (Holds.Node Category.AssignmentTarget) Presence.Required ∷
-    field (codes "init") (Holds.Node Category.Expression) Presence.Required ∷ []
-row_of kind.BooleanLiteral =
-    field (codes "value") Holds.Flag Presence.Required ∷ []
-row_of kind.NullLiteral = []
-row_of kind.ThisExpression = []
-row_of kind.Super = []
-row_of kind.NumericLiteral =
-    field (codes "value") Holds.WholeOrNull Presence.Optional ∷
-    field (codes "raw") Holds.TextOrNull Presence.Optional ∷ []
-row_of kind.StringLiteral =
-    field (codes "value") Holds.Text Presence.Required ∷
-    field (codes "raw") Holds.TextOrNull Presence.Optional ∷ []
-row_of kind.BigIntLiteral =
-    field (codes "raw") Holds.Text Presence.Required ∷ []
-row_of kind.RegExpLiteral =
-    field (codes "pattern") Holds.Text Presence.Required ∷
-    field (codes "flags") Holds.Text Presence.Required ∷ []
-row_of kind.MetaProperty =
-    field (codes "meta") Holds.Text Presence.Required ∷
-    field (codes "property") Holds.Text Presence.Required ∷ []
-row_of kind.TemplateLiteral =
-    field (codes "quasis") (Holds.List Category.TemplateElement) Presence.Required ∷
-    field (codes "expressions") (Holds.List Category.Expression) Presence.Optional ∷ []
-row_of kind.TemplateElement =
-    field (codes "raw") Holds.Text Presence.Required ∷
-    field (codes "cooked") Holds.TextOrNull Presence.Optional ∷ []
-row_of kind.TaggedTemplateExpression =
-    field (codes "tag") (Holds.Node Category.Expression) Presence.Required ∷
-    field (codes "typeArguments") (Holds.NodeOrNull Category.TSTypeParameterInstantiation) Presence.TypeScript ∷
-    field (codes "quasi") (Holds.Node Category.TemplateLiteral) Presence.Required ∷ []
-row_of kind.ArrayExpression =
-    field (codes "elements") (Holds.ListOfNullable Category.Argument) Presence.Required ∷ []
-row_of kind.ObjectExpression =
-    field (codes "properties") (Holds.List Category.ObjectPropertyKind) Presence.Required ∷ []
-row_of kind.SpreadElement =
-    field (codes "argument") (Holds.Node Category.Expression) Presence.Required ∷ []
-row_of kind.ObjectProperty =
-    field (codes "kind") (Holds.Word Words.PropertyKind) Presence.Optional ∷
-    field (codes "key") (Holds.Node Category.PropertyKey) Presence.Required ∷
-    field (codes "computed") Holds.Flag Presence.Optional ∷
-    field (codes "method") Holds.Flag Presence.Optional ∷
-    field (codes "shorthand") Holds.Flag Presence.Optional ∷
-    field (codes "value") (Holds.Node Category.Expression) Presence.Required ∷ []
-row_of kind.AssignmentExpression =
-    field (codes "operator") Holds.Text Presence.Required ∷
-    field (codes "left") (Holds.Node Category.AssignmentTarget) Presence.Required ∷
-    field (codes "right") (Holds.Node Category.Expression) Presence.Required ∷ []
-row_of kind.BinaryExpression =
-    field (codes "operator") Holds.Text Presence.Required ∷
-    field (codes "left") (Holds.Node Category.Expression) Presence.Required ∷
-    field (codes "right") (Holds.Node Category.Expression) Presence.Required ∷ []
-row_of kind.LogicalExpression =
-    field (codes "operator") Holds.Text Presence.Required ∷
-    field (codes "left") (Holds.Node Category.Expression) Presence.Required ∷
-    field (codes "right") (Holds.Node Category.Expression) Presence.Required ∷ []
-row_of kind.UnaryExpression =
-    field (codes "operator") Holds.Text Presence.Required ∷
-    field (codes "argument") (Holds.Node Category.Expression) Presence.Required ∷ []
-row_of kind.UpdateExpression =
-    field (codes "operator") (Holds.Word Words.UpdateOperator) Presence.Required ∷
-    field (codes "prefix") Holds.Flag Presence.Optional ∷
-    field (codes "argument") (Holds.Node Category.SimpleAssignmentTarget) Presence.Required ∷ []
-row_of kind.ConditionalExpression =
-    field (codes "test") (Holds.Node Category.Expression) Presence.Required ∷
-    field (codes "consequent") (Holds.Node Category.Expression) Presence.Required ∷
-    field (codes "alternate") (Holds.Node Category.Expression) Presence.Required ∷ []
-row_of kind.SequenceExpression =
-    field (codes "expressions") (Holds.List Category.Expression) Presence.Required ∷ []
-row_of kind.ParenthesizedExpression =
-    field (codes "expression") (Holds.Node Category.Expression) Presence.Required ∷ []
-row_of kind.CallExpression =
-    field (codes "callee") (Holds.Node Category.Expression) Presence.Required ∷
-    field (codes "typeArguments") (Holds.NodeOrNull Category.TSTypeParameterInstantiation) Presence.TypeScript ∷
-    field (codes "arguments") (Holds.List Category.Argument) Presence.Required ∷
-    field (codes "optional") Holds.Flag Presence.Optional ∷
-    field (codes "pure") Holds.Flag Presence.Optional ∷ []
-row_of kind.NewExpression =
-    field (codes "callee") (Holds.Node Category.Expression) Presence.Required ∷
-    field (codes "typeArguments") (Holds.NodeOrNull Category.TSTypeParameterInstantiation) Presence.TypeScript ∷
-    field (codes "arguments") (Holds.List Category.Argument) Presence.Required ∷
-    field (codes "pure") Holds.Flag Presence.Optional ∷ []
-row_of kind.ImportExpression =
-    field (codes "source") (Holds.Node Category.Expression) Presence.Required ∷
-    field (codes "options") (Holds.NodeOrNull Category.Expression) Presence.Optional ∷ []
-row_of kind.StaticMemberExpression =
-    field (codes "object") (Holds.Node Category.Expression) Presence.Required ∷
-    field (codes "property") (Holds.Node Category.IdentifierName) Presence.Required ∷
-    field (codes "optional") Holds.Flag Presence.Optional ∷ []
-row_of kind.ComputedMemberExpression =
-    field (codes "object") (Holds.Node Category.Expression) Presence.Required ∷
-    field (codes "expression") (Holds.Node Category.Expression) Presence.Required ∷
-    field (codes "optional") Holds.Flag Presence.Optional ∷ []
-row_of kind.PrivateFieldExpression =
-    field (codes "object") (Holds.Node Category.Expression) Presence.Required ∷
-    field (codes "field") (Holds.Node Category.PrivateIdentifier) Presence.Required ∷
-    field (codes "optional") Holds.Flag Presence.Optional ∷ []
-row_of kind.PrivateInExpression =
-    field (codes "left") (Holds.Node Category.PrivateIdentifier) Presence.Required ∷
-    field (codes "right") (Holds.Node Category.Expression) Presence.Required ∷ []
-row_of kind.ChainExpression =
-    field (codes "expression") (Holds.Node Category.ChainElement) Presence.Required ∷ []
-row_of kind.AwaitExpression =
-    field (codes "argument") (Holds.Node Category.Expression) Presence.Required ∷ []
-row_of kind.YieldExpression =
-    field (codes "delegate") Holds.Flag Presence.Optional ∷
-    field (codes "argument") (Holds.NodeOrNull Category.Expression) Presence.Optional ∷ []
-row_of kind.TSAsExpression =
-    field (codes "expression") (Holds.Node Category.Expression) Presence.Required ∷
-    field (codes "typeAnnotation") (Holds.Node Category.TSType) Presence.Required ∷ []
-row_of kind.TSSatisfiesExpression =
-    field (codes "expression") (Holds.Node Category.Expression) Presence.Required ∷
-    field (codes "typeAnnotation") (Holds.Node Category.TSType) Presence.Required ∷ []
-row_of kind.TSTypeAssertion =
-    field (codes "expression") (Holds.Node Category.Expression) Presence.Required ∷
-    field (codes "typeAnnotation") (Holds.Node Category.TSType) Presence.Required ∷ []
-row_of kind.TSNonNullExpression =
-    field (codes "expression") (Holds.Node Category.Expression) Presence.Required ∷ []
-row_of kind.TSInstantiationExpression =
-    field (codes "expression") (Holds.Node Category.Expression) Presence.Required ∷
-    field (codes "typeArguments") (Holds.Node Category.TSTypeParameterInstantiation) Presence.Required ∷ []
-row_of kind.JSXElement =
-    field (codes "openingElement") (Holds.Node Category.JSXOpeningElement) Presence.Required ∷
-    field (codes "children") (Holds.List Category.JSXChild) Presence.Optional ∷
-    field (codes "closingElement") (Holds.NodeOrNull Category.JSXClosingElement) Presence.Optional ∷ []
-row_of kind.JSXFragment =
-    field (codes "children") (Holds.List Category.JSXChild) Presence.Optional ∷ []
-row_of kind.JSXOpeningElement =
-    field (codes "name") (Holds.Node Category.JSXElementName) Presence.Required ∷
-    field (codes "typeArguments") (Holds.NodeOrNull Category.TSTypeParameterInstantiation) Presence.TypeScript ∷
-    field (codes "attributes") (Holds.List Category.JSXAttributeItem) Presence.Optional ∷ []
-row_of kind.JSXClosingElement =
-    field (codes "name") (Holds.Node Category.JSXElementName) Presence.Required ∷ []
-row_of kind.JSXIdentifier =
-    field (codes "name") Holds.Text Presence.Required ∷ []
-row_of kind.JSXNamespacedName =
-    field (codes "namespace") Holds.Text Presence.Required ∷
-    field (codes "name") Holds.Text Presence.Required ∷ []
-row_of kind.JSXMemberExpression =
-    field (codes "object") (Holds.Node Category.JSXElementName) Presence.Required ∷
-    field (codes "property") Holds.Text Presence.Required ∷ []
-row_of kind.JSXAttribute =
-    field (codes "name") (Holds.Node Category.JSXAttributeName) Presence.Required ∷
-    field (codes "value") (Holds.NodeOrNull Category.JSXAttributeValue) Presence.Optional ∷ []
-row_of kind.JSXSpreadAttribute =
-    field (codes "argument") (Holds.Node Category.Expression) Presence.Required ∷ []
-row_of kind.JSXExpressionContainer =
-    field (codes "expression") (Holds.Node Category.JSXExpression) Presence.Required ∷ []
-row_of kind.JSXEmptyExpression = []
-row_of kind.JSXSpreadChild =
-    field (codes "expression") (Holds.Node Category.Expression) Presence.Required ∷ []
-row_of kind.JSXText =
-    field (codes "value") Holds.Text Presence.Required ∷ []
-row_of kind.ImportDeclaration =
-    field (codes "importKind") (Holds.Word Words.TypeOrValue) Presence.TypeScript ∷
-    field (codes "phase") (Holds.WordOrNull Words.Phase) Presence.Optional ∷
-    field (codes "specifiers") (Holds.ListOrNull Category.ImportDeclarationSpecifier) Presence.Optional ∷
-    field (codes "source") (Holds.Node Category.StringLiteral) Presence.Required ∷
-    field (codes "withClause") (Holds.NodeOrNull Category.WithClause) Presence.Optional ∷ []
-row_of kind.ImportSpecifier =
-    field (codes "importKind") (Holds.Word Words.TypeOrValue) Presence.TypeScript ∷
-    field (codes "imported") (Holds.Node Category.ModuleExportName) Presence.Required ∷
-    field (codes "local") (Holds.Node Category.BindingIdentifier) Presence.Required ∷ []
-row_of kind.ImportDefaultSpecifier =
-    field (codes "local") (Holds.Node Category.BindingIdentifier) Presence.Required ∷ []
-row_of kind.ImportNamespaceSpecifier =
-    field (codes "local") (Holds.Node Category.BindingIdentifier) Presence.Required ∷ []
-row_of kind.WithClause =
-    field (codes "entries") (Holds.List Category.ImportAttribute) Presence.Optional ∷ []
-row_of kind.ImportAttribute =
-    field (codes "key") (Holds.Node Category.ImportAttributeKey) Presence.Required ∷
-    field (codes "value") (Holds.Node Category.StringLiteral) Presence.Required ∷ []
-row_of kind.ExportDeclaration =
-    field (codes "declaration") (Holds.Node Category.Declaration) Presence.Required ∷ []
-row_of kind.ExportNamedDeclaration =
-    field (codes "exportKind") (Holds.Word Words.TypeOrValue) Presence.TypeScript ∷
-    field (codes "specifiers") (Holds.List Category.ExportSpecifier) Presence.Optional ∷ []
-row_of kind.ExportFromDeclaration =
-    field (codes "exportKind") (Holds.Word Words.TypeOrValue) Presence.TypeScript ∷
-    field (codes "specifiers") (Holds.List Category.ExportSpecifier) Presence.Optional ∷
-    field (codes "source") (Holds.Node Category.StringLiteral) Presence.Required ∷
-    field (codes "withClause") (Holds.NodeOrNull Category.WithClause) Presence.Optional ∷ []
-row_of kind.ExportAllDeclaration =
-    field (codes "exportKind") (Holds.Word Words.TypeOrValue) Presence.TypeScript ∷
-    field (codes "exported") (Holds.NodeOrNull Category.ModuleExportName) Presence.Optional ∷
-    field (codes "source") (Holds.Node Category.StringLiteral) Presence.Required ∷
-    field (codes "withClause") (Holds.NodeOrNull Category.WithClause) Presence.Optional ∷ []
-row_of kind.ExportDefaultDeclaration =
-    field (codes "declaration") (Holds.Node Category.ExportDefaultDeclarationKind) Presence.Required ∷ []
-row_of kind.ExportSpecifier =
-    field (codes "exportKind") (Holds.Word Words.TypeOrValue) Presence.TypeScript ∷
-    field (codes "local") (Holds.Narrowed Category.ModuleExportName Category.IdentifierReference) Presence.Required ∷
-    field (codes "exported") (Holds.Node Category.ModuleExportName) Presence.Required ∷ []
-row_of kind.TSExportAssignment =
-    field (codes "expression") (Holds.Node Category.Expression) Presence.Required ∷ []
-row_of kind.TSNamespaceExportDeclaration =
-    field (codes "id") (Holds.Node Category.IdentifierName) Presence.Required ∷ []
-row_of kind.TSTypeAliasDeclaration =
-    field (codes "id") (Holds.Node Category.BindingIdentifier) Presence.Required ∷
-    field (codes "declare") Holds.Flag Presence.TypeScript ∷ []
-row_of kind.TSInterfaceDeclaration =
-    field (codes "id") (Holds.Node Category.BindingIdentifier) Presence.Required ∷
-    field (codes "declare") Holds.Flag Presence.TypeScript ∷ []
-row_of kind.TSEnumDeclaration =
-    field (codes "id") (Holds.Node Category.BindingIdentifier) Presence.Required ∷
-    field (codes "const") Holds.Flag Presence.Optional ∷
-    field (codes "declare") Holds.Flag Presence.TypeScript ∷
-    field (codes "body") (Holds.Node Category.TSEnumBody) Presence.Required ∷ []
-row_of kind.TSEnumBody =
-    field (codes "members") (Holds.List Category.TSEnumMember) Presence.Required ∷ []
-row_of kind.TSEnumMember =
-    field (codes "id") (Holds.Node Category.TSEnumMemberName) Presence.Required ∷
-    field (codes "computed") Holds.Flag Presence.Optional ∷
-    field (codes "initializer") (Holds.NodeOrNull Category.Expression) Presence.Optional ∷ []
-row_of kind.TSNamespaceDeclaration =
-    field (codes "id") (Holds.Node Category.BindingIdentifier) Presence.Required ∷
-    field (codes "kind") (Holds.Word Words.NamespaceKind) Presence.Optional ∷
-    field (codes "declare") Holds.Flag Presence.TypeScript ∷
-    field (codes "body") (Holds.Node Category.TSNamespaceDeclarationBody) Presence.Required ∷ []
-row_of kind.TSModuleBlock =
-    field (codes "directives") (Holds.List Category.Directive) Presence.Optional ∷
-    field (codes "body") (Holds.List Category.Item) Presence.Required ∷ []
-row_of kind.TSExternalModuleDeclaration =
-    field (codes "id") (Holds.Node Category.StringLiteral) Presence.Required ∷
-    field (codes "declare") Holds.Flag Presence.TypeScript ∷
-    field (codes "body") (Holds.NodeOrNull Category.TSModuleBlock) Presence.Optional ∷ []
-row_of kind.TSGlobalDeclaration =
-    field (codes "declare") Holds.Flag Presence.TypeScript ∷
-    field (codes "body") (Holds.Node Category.TSModuleBlock) Presence.Required ∷ []
-row_of kind.TSImportEqualsDeclaration =
-    field (codes "importKind") (Holds.Word Words.TypeOrValue) Presence.TypeScript ∷
-    field (codes "id") (Holds.Node Category.BindingIdentifier) Presence.Required ∷
-    field (codes "moduleReference") (Holds.Node Category.TSModuleReference) Presence.Required ∷ []
-row_of kind.TSExternalModuleReference =
-    field (codes "expression") (Holds.Node Category.StringLiteral) Presence.Required ∷ []
-row_of kind.TSQualifiedName =
-    field (codes "left") (Holds.Node Category.TSTypeName) Presence.Required ∷
-    field (codes "right") (Holds.Node Category.IdentifierName) Presence.Required ∷ []
-row_of kind.TSTypeAnnotation =
-    field (codes "typeAnnotation") (Holds.Node Category.TSType) Presence.Required ∷ []
-row_of kind.TSThisParameter =
-    field (codes "typeAnnotation") (Holds.NodeOrNull Category.TSTypeAnnotation) Presence.TypeScript ∷ []
-row_of kind.TSTypeParameterDeclaration =
-    field (codes "params") (Holds.List Category.TSTypeParameter) Presence.Required ∷ []
-row_of kind.TSTypeParameter =
-    field (codes "name") (Holds.Node Category.BindingIdentifier) Presence.Required ∷ []
-row_of kind.TSTypeReference =
-    field (codes "typeName") (Holds.Node Category.TSTypeName) Presence.Required ∷ []
-row_of kind.TSUnionType =
-    field (codes "types") (Holds.List Category.TSType) Presence.Required ∷ []
-row_of kind.TSIntersectionType =
-    field (codes "types") (Holds.List Category.TSType) Presence.Required ∷ []
-row_of kind.TSConditionalType =
-    field (codes "trueType") (Holds.Node Category.TSType) Presence.Required ∷
-    field (codes "falseType") (Holds.Node Category.TSType) Presence.Required ∷ []
-row_of kind.TSTypeOperator =
-    field (codes "operator") (Holds.Word Words.TypeOperator) Presence.Required ∷
-    field (codes "typeAnnotation") (Holds.Node Category.TSType) Presence.Required ∷ []
-row_of kind.TSParenthesizedType =
-    field (codes "typeAnnotation") (Holds.Node Category.TSType) Presence.Required ∷ []
-row_of kind.JSDocNullableType =
-    field (codes "typeAnnotation") (Holds.Node Category.TSType) Presence.Required ∷ []
-row_of kind.JSDocNonNullableType =
-    field (codes "typeAnnotation") (Holds.Node Category.TSType) Presence.Required ∷ []
-row_of kind.TSTypePredicate =
-    field (codes "asserts") Holds.Flag Presence.Optional ∷ []
-row_of kind.TSLiteralType =
-    field (codes "literal") (Holds.Node Category.TSLiteral) Presence.Required ∷ []
-row_of kind.TSVoidKeyword = []
-row_of kind.TSUndefinedKeyword = []
-row_of kind.TSNullKeyword = []
-row_of kind.TSNeverKeyword = []
-row_of kind.TSBooleanKeyword = []
-row_of kind.TSStringKeyword = []
-row_of kind.TSNumberKeyword = []
-row_of kind.TSBigIntKeyword = []
-row_of kind.TSSymbolKeyword = []
-row_of kind.TSObjectKeyword = []
-row_of kind.TSAnyKeyword = []
-row_of kind.TSUnknownKeyword = []
-row_of kind.TSIntrinsicKeyword = []
-row_of kind.TSFunctionType = []
-row_of kind.TSConstructorType = []
-row_of kind.TSArrayType = []
-row_of kind.TSTupleType = []
-row_of kind.TSNamedTupleMember = []
-row_of kind.TSOptionalType = []
-row_of kind.TSRestType = []
-row_of kind.TSTemplateLiteralType = []
-row_of kind.TSTypeQuery = []
-row_of kind.TSIndexedAccessType = []
-row_of kind.TSMappedType = []
-row_of kind.TSTypeLiteral = []
-row_of kind.TSThisType = []
-row_of kind.TSImportType = []
-row_of kind.TSInferType = []
-row_of kind.JSDocUnknownType = []
-row_of kind.TSTypeParameterInstantiation = []
-row_of kind.TSClassImplements = []
-row_of kind.TSIndexSignature = []
+row_of k = row_of_2 k

@@ -1,6 +1,11 @@
 //! What the fields of a node hold.
 
+ghost use Rattle.std.specs.Prelude.{◌≡◌};
+ghost use Rattle.oxt_grammar.specs.Keys.{key_of};
+ghost use Rattle.oxt_grammar.specs.Places.{same_field};
+
 use crate::category::Category;
+use crate::field::Field;
 use crate::word::Words;
 
 /// What may stand in a field.
@@ -46,10 +51,26 @@ pub enum Presence {
 /// A field of a kind.
 #[derive(Clone, Copy, Debug)]
 pub struct Row {
-    /// The key in the node's JSON.
-    pub name: &'static str,
+    /// The field.
+    pub field: Field,
     /// What may stand there.
     pub holds: Holds,
     /// Whether it has to be there.
     pub presence: Presence,
+}
+
+impl Row {
+    /// The key in the node's JSON.
+    pub fn name(&self) -> &'static str
+        ensures { result.now ≡ key_of self.now.field }
+    {
+        self.field.name()
+    }
+
+    /// Whether it is the row of that field.
+    pub fn is(&self, field: Field) -> bool
+        ensures { result ≡ same_field self.now.field field }
+    {
+        self.field.is(field)
+    }
 }

@@ -1,6 +1,6 @@
 // Written by tools/grammar.py from grammar/grammar.txt.
 ghost use Rattle.std.specs.Prelude.{◌≡◌};
-ghost use Rattle.oxt_grammar.specs.Kinds.{name_of, is_typescript_kind};
+ghost use Rattle.oxt_grammar.specs.Kinds.{name_of, name_of_2, name_of_3, name_of_4, is_typescript_kind};
 
 /// What a node is: the text of its `type`.
 #[derive(Clone, Copy, Debug, PartialEq, Eq)]
@@ -243,6 +243,15 @@ impl Kind {
             Kind::StaticBlock => "StaticBlock",
             Kind::Decorator => "Decorator",
             Kind::BindingIdentifier => "BindingIdentifier",
+            _ => self.name_2(),
+        }
+    }
+
+    /// The same, behind those above.
+    fn name_2(self) -> &'static str
+        ensures { result.now ≡ name_of_2 self }
+    {
+        match self {
             Kind::IdentifierReference => "IdentifierReference",
             Kind::IdentifierName => "IdentifierName",
             Kind::PrivateIdentifier => "PrivateIdentifier",
@@ -289,6 +298,15 @@ impl Kind {
             Kind::PrivateFieldExpression => "PrivateFieldExpression",
             Kind::PrivateInExpression => "PrivateInExpression",
             Kind::ChainExpression => "ChainExpression",
+            _ => self.name_3(),
+        }
+    }
+
+    /// The same, behind those above.
+    fn name_3(self) -> &'static str
+        ensures { result.now ≡ name_of_3 self }
+    {
+        match self {
             Kind::AwaitExpression => "AwaitExpression",
             Kind::YieldExpression => "YieldExpression",
             Kind::TSAsExpression => "TSAsExpression",
@@ -335,6 +353,15 @@ impl Kind {
             Kind::TSImportEqualsDeclaration => "TSImportEqualsDeclaration",
             Kind::TSExternalModuleReference => "TSExternalModuleReference",
             Kind::TSQualifiedName => "TSQualifiedName",
+            _ => self.name_4(),
+        }
+    }
+
+    /// The same, behind those above.
+    fn name_4(self) -> &'static str
+        ensures { result.now ≡ name_of_4 self }
+    {
+        match self {
             Kind::TSTypeAnnotation => "TSTypeAnnotation",
             Kind::TSThisParameter => "TSThisParameter",
             Kind::TSTypeParameterDeclaration => "TSTypeParameterDeclaration",
@@ -381,6 +408,7 @@ impl Kind {
             Kind::TSTypeParameterInstantiation => "TSTypeParameterInstantiation",
             Kind::TSClassImplements => "TSClassImplements",
             Kind::TSIndexSignature => "TSIndexSignature",
+            _ => "",
         }
     }
 

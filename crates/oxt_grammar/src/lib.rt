@@ -3,6 +3,7 @@
 
 pub mod category;
 pub mod context;
+pub mod field;
 pub mod holds;
 pub mod kind;
 pub mod places;

@@ -2,10 +2,11 @@
 ghost use Rattle.std.specs.Prelude.{◌≡◌};
 ghost use Rattle.std.specs.List.{list_any};
 ghost use Rattle.oxt_grammar.specs.Field.{is_typescript_field};
-ghost use Rattle.oxt_grammar.specs.Places.{kind_in, narrow, same_kind, element_of, allows_null, allows_flag, allows_any_text, words_of, allows_number, category_of};
+ghost use Rattle.oxt_grammar.specs.Places.{kind_in, narrow, same_field, same_kind, element_of, allows_null, allows_flag, allows_any_text, words_of, allows_number, category_of};
 
 use crate::category::Category;
 use crate::context::Setting;
+use crate::field::Field;
 use crate::holds::{Holds, Presence};
 use crate::kind::Kind;
 use crate::word::Words;
@@ -34,6 +35,15 @@ impl Kind {
     /// Whether both are one kind.
     pub fn is(self, other: Kind) -> bool
         ensures { result ≡ same_kind self other }
+    {
+        self == other
+    }
+}
+
+impl Field {
+    /// Whether both are one field.
+    pub fn is(self, other: Field) -> bool
+        ensures { result ≡ same_field self other }
     {
         self == other
     }

@@ -8,6 +8,7 @@ ghost use Rattle.oxt_tree.specs.View.{docs_in, node_doc};
 
 use crate::names::named_symbol;
 use indexmap::IndexMap;
+use oxt_grammar::field::Field;
 use oxt_grammar::holds::Row;
 use oxt_grammar::kind::Kind;
 use oxt_names::constant::ConstantValue;
@@ -148,7 +149,7 @@ fn within(scoping: &Scoping, around: Option<SymbolId>, node: &Node) -> Option<Sy
     ensures { result ≡ within scoping.now around node.now.kind (docs_in node.now.parts.items) }
 {
     if node.kind.is(Kind::TSEnumDeclaration) {
-        named_symbol(scoping, node.field("id"))
+        named_symbol(scoping, node.field(Field::Id))
     } else {
         around
     }

@@ -11,6 +11,7 @@ use crate::names::named_symbol;
 use crate::needed::needed_symbols;
 use crate::values::{is_optimized, optimizes};
 use indexmap::IndexSet;
+use oxt_grammar::field::Field;
 use oxt_grammar::holds::Row;
 use oxt_grammar::kind::Kind;
 use oxt_names::ids::SymbolId;
@@ -131,7 +132,7 @@ impl<'a> Blocks<'a> {
             (docs_in node.now.parts.items) }
     {
         if node.kind.is(Kind::TSEnumDeclaration)
-            && self.goes(named_symbol(self.scoping, node.field("id")))
+            && self.goes(named_symbol(self.scoping, node.field(Field::Id)))
         {
             Some(node.id)
         } else {

@@ -13,6 +13,7 @@ use crate::seat::{Seat, is_value, seat_in};
 use crate::values::{member_constant, optimizes, optional_constant};
 use oxt_constant::meter::TextMeter;
 use oxt_grammar::category::Category;
+use oxt_grammar::field::Field;
 use oxt_grammar::holds::Row;
 use oxt_grammar::kind::Kind;
 use oxt_names::constant::ConstantValue;
@@ -183,7 +184,7 @@ fn constant_of<'a>(
         (table_at constants.now) (typescript_view options.now) node.now.kind (docs_in node.now.parts.items) }
 {
     if node.kind.is(Kind::ChainExpression) {
-        chain_constant(scoping, constants, options, node.field("expression"))
+        chain_constant(scoping, constants, options, node.field(Field::Expression))
     } else {
         member_constant(scoping, constants, options, node)
     }

@@ -13,6 +13,7 @@ use crate::inlined::constant_at;
 use crate::names::named_symbol;
 use crate::seat::{Seat, is_constant, is_exported, is_name, seat_in};
 use bitflags::Flags;
+use oxt_grammar::field::Field;
 use oxt_grammar::holds::Row;
 use oxt_grammar::kind::Kind;
 use oxt_names::flags::{ReferenceFlags, SymbolFlags};
@@ -130,7 +131,7 @@ fn seat_inside(scoping: &Scoping, seat: Seat, node: &Node) -> Seat
 fn field_seat(seat: Seat, kind: Kind, row: &Row) -> Option<Seat>
     ensures { result ≡ field_seat seat kind (row_view row.now) }
 {
-    if is_constant(seat) && row.name == "initializer" {
+    if is_constant(seat) && row.is(Field::Initializer) {
         None
     } else {
         Some(seat_in(seat, kind, row))
@@ -157,7 +158,7 @@ fn kept_by(scoping: &Scoping, seat: Seat, node: &Node) -> Option<SymbolId>
     ensures { result ≡ kept_by scoping.now seat node.now.kind (docs_in node.now.parts.items) }
 {
     if is_kept(scoping, seat, node) {
-        named_symbol(scoping, node.field("id"))
+        named_symbol(scoping, node.field(Field::Id))
     } else {
         None
     }
@@ -167,7 +168,7 @@ fn kept_by(scoping: &Scoping, seat: Seat, node: &Node) -> Option<SymbolId>
 fn is_kept(scoping: &Scoping, seat: Seat, node: &Node) -> bool
     ensures { result ≡ is_kept scoping.now seat node.now.kind (docs_in node.now.parts.items) }
 {
-    is_exported(seat) || is_dropped(node) || has_loose_member(scoping, node.field("body"))
+    is_exported(seat) || is_dropped(node) || has_loose_member(scoping, node.field(Field::Body))
 }
 
 /// Whether one of the members in that body is loose.
@@ -175,7 +176,7 @@ fn has_loose_member(scoping: &Scoping, body: Option<&Part>) -> bool
     ensures { result ≡ has_loose_member scoping.now (doc_or_nil body.entry) }
 {
     match body {
-        Some(Part::Node(node)) => are_loose(scoping, node.list("members")),
+        Some(Part::Node(node)) => are_loose(scoping, node.list(Field::Members)),
         _ => false,
     }
 }
@@ -201,7 +202,7 @@ fn is_loose(scoping: &Scoping, member: &Part) -> bool
 {
     match member {
         Part::Node(node) => {
-            !has_value(scoping, node.id) || node.holds_kind("id", Kind::TemplateLiteral)
+            !has_value(scoping, node.id) || node.holds_kind(Field::Id, Kind::TemplateLiteral)
         }
         _ => false,
     }

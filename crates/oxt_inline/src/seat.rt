@@ -5,6 +5,7 @@ ghost use Rattle.oxt_inline.specs.Seats.{has_own_name, is_constant, is_exported,
 
 use crate::target::holds_target;
 use oxt_grammar::category::Category;
+use oxt_grammar::field::Field;
 use oxt_grammar::holds::Row;
 use oxt_grammar::kind::Kind;
 
@@ -35,7 +36,7 @@ pub fn seat_in(seat: Seat, kind: Kind, row: &Row) -> Seat
         Seat::Element
     } else if kind.is(Kind::ExportDeclaration) {
         Seat::Exported
-    } else if has_own_name(kind) && row.name == "id" {
+    } else if has_own_name(kind) && row.is(Field::Id) {
         Seat::Name
     } else if holds_target(row.holds) {
         Seat::Target

@@ -1,5 +1,6 @@
 //! The constants of members of enums that are named by way of their enums.
 ghost use Rattle.std.specs.Prelude.{◌≡◌, ◌<◌, Some, length, option_map, slice_get};
+ghost use Rattle.oxt_grammar.specs.Keys.{key_of as field_key};
 ghost use Rattle.oxt_inline.specs.Constants.{table_at};
 ghost use Rattle.oxt_inline.specs.Values.{constant_in_enum, is_optimized, key_of, key_text, member_constant, optional_constant, optimizes};
 ghost use Rattle.oxt_names.specs.Constant.{constant_view};
@@ -8,6 +9,7 @@ ghost use Rattle.oxt_tree.specs.View.{doc_or_nil, docs_in, node_doc};
 
 use crate::constants::Constants;
 use crate::names::meant_by;
+use oxt_grammar::field::Field;
 use oxt_grammar::kind::Kind;
 use oxt_names::constant::ConstantValue;
 use oxt_names::ids::SymbolId;
@@ -34,7 +36,7 @@ pub fn member_constant<'a>(
         ≡ member_constant scoping.now (table_at constants.now) (typescript_view options.now) node.now.kind (docs_in node.now.parts.items) }
 {
     let key = key_of(node)?;
-    let symbol = meant_by(scoping, node.field("object"));
+    let symbol = meant_by(scoping, node.field(Field::Object));
     constant_in_enum(scoping, constants, options, symbol, key)
 }
 
@@ -48,7 +50,7 @@ pub fn optional_constant<'a>(
     ensures { option_map (λ value. constant_view value.now) result
         ≡ optional_constant scoping.now (table_at constants.now) (typescript_view options.now) (node_doc node.now) }
 {
-    if node.flag("optional") {
+    if node.flag(Field::Optional) {
         member_constant(scoping, constants, options, node)
     } else {
         None
@@ -60,19 +62,19 @@ fn key_of(node: &Node) -> Option<&str>
     ensures { option_map (λ text. text.now) result ≡ key_of node.now.kind (docs_in node.now.parts.items) }
 {
     if node.kind.is(Kind::StaticMemberExpression) {
-        key_text(node.field("property"), "name")
+        key_text(node.field(Field::Property), Field::Name)
     } else if node.kind.is(Kind::ComputedMemberExpression)
-        && node.holds_kind("expression", Kind::StringLiteral)
+        && node.holds_kind(Field::Expression, Kind::StringLiteral)
     {
-        key_text(node.field("expression"), "value")
+        key_text(node.field(Field::Expression), Field::Value)
     } else {
         None
     }
 }
 
 /// The text in that field of the node there.
-fn key_text<'a>(key: Option<&'a Part>, field: &str) -> Option<&'a str>
-    ensures { option_map (λ text. text.now) result ≡ key_text field.now (doc_or_nil key.entry) }
+fn key_text<'a>(key: Option<&'a Part>, field: Field) -> Option<&'a str>
+    ensures { option_map (λ text. text.now) result ≡ key_text (field_key field) (doc_or_nil key.entry) }
 {
     match key {
         Some(Part::Node(node)) => node.field(field)?.as_text(),

@@ -4,6 +4,7 @@ use Rattle.std.proofs.lemmas.List.{map-append, drop_all}
 use Rattle.std.specs.Fmt.{decimal}
 use Rattle.serde_json.specs.View.{view, items_view}
 use Rattle.serde_json.specs.declared.value.Value.{Value}
+use Rattle.oxt_grammar.specs.Keys.{key_of}
 use Rattle.oxt_grammar.specs.Field.{row_view}
 use Rattle.oxt_grammar.specs.declared.context.Setting.{Setting}
 use Rattle.oxt_grammar.specs.declared.holds.Holds.{Holds}
@@ -62,7 +63,7 @@ items_done vs i done s h n whole all so_far = so_far ∙ rw (drop_all i vs all, 
 
 -- a field was read
 pub fields_more : (rs : List Row) (i : ℕ) (r : Row) (parts : List Part) (p : Part) (members : List ℕ → Option Reader) (s inner : Setting) (n m : ℕ) (whole : Answer (List Doc))
-    → i < length rs → r ≡ get_or rs i r → below r.name.now (field_as (row_view r) (members r.name.now) s inner n) ≡ Ok (part_doc p, m)
+    → i < length rs → r ≡ get_or rs i r → below (key_of r.field) (field_as (row_view r) (members (key_of r.field)) s inner n) ≡ Ok (part_doc p, m)
     → whole ≡ after (map part_doc parts) (fields_as (map row_view (drop i rs)) members s inner n)
     → whole ≡ after (map part_doc (parts ++ p ∷ [])) (fields_as (map row_view (drop (i + 1) rs)) members s inner m)
 fields_more rs i r parts p members s inner n m whole lt is first so_far =
@@ -70,7 +71,7 @@ fields_more rs i r parts p members s inner n m whole lt is first so_far =
 
 -- a field is wrong
 pub fields_wrong : (rs : List Row) (i : ℕ) (r : Row) (done : List Doc) (members : List ℕ → Option Reader) (s inner : Setting) (n : ℕ) (e : Misread) (whole : Answer (List Doc))
-    → i < length rs → r ≡ get_or rs i r → IsCause (below r.name.now (field_as (row_view r) (members r.name.now) s inner n)) e
+    → i < length rs → r ≡ get_or rs i r → IsCause (below (key_of r.field) (field_as (row_view r) (members (key_of r.field)) s inner n)) e
     → whole ≡ after done (fields_as (map row_view (drop i rs)) members s inner n)
     → IsCause whole e
 fields_wrong rs i r done members s inner n e whole lt is first so_far =

@@ -4,6 +4,7 @@ use Rattle.std.specs.Cmp.Lexicographic.{slice_cmp}
 use Rattle.std.specs.Ordering.{match_ordering}
 use Rattle.serde_json.specs.Data.{Data, Members, no_members, member}
 use Rattle.serde_json.specs.Find.{get_member}
+use Rattle.oxt_grammar.specs.Keys.{key_of}
 use Rattle.oxt_grammar.specs.Field.{row_view}
 use Rattle.oxt_grammar.specs.Places.{narrow}
 use Rattle.oxt_grammar.specs.declared.context.Setting.{Setting}
@@ -25,11 +26,11 @@ member_as-get_member (member key d ms) name =
     ∙ sym (map-match_ordering (slice_cmp nat_cmp name key) _ _ _)
 
 -- a field that is there reads as what stands in it
-pub found_as : (r : Row) (ms : Members) (s inner : Setting) (n : ℕ) (d : Data) (h : Holds) → Some d ≡ get_member r.name.now ms → h ≡ narrow s r.holds
-    → field_as (row_view r) (member_as ms r.name.now) s inner n ≡ read_as d inner h n
-found_as r ms s inner n d h is narrowed = rw (member_as-get_member ms r.name.now, ← is, narrowed)
+pub found_as : (r : Row) (ms : Members) (s inner : Setting) (n : ℕ) (d : Data) (h : Holds) → Some d ≡ get_member (key_of r.field) ms → h ≡ narrow s r.holds
+    → field_as (row_view r) (member_as ms (key_of r.field)) s inner n ≡ read_as d inner h n
+found_as r ms s inner n d h is narrowed = rw (member_as-get_member ms (key_of r.field), ← is, narrowed)
 
 -- a field that is not there
-pub absent_as : (r : Row) (ms : Members) (s inner : Setting) (n : ℕ) → None ≡ get_member r.name.now ms
-    → field_as (row_view r) (member_as ms r.name.now) s inner n ≡ allowed (missing_doc (row_view r)) n
-absent_as r ms s inner n is = rw (member_as-get_member ms r.name.now, ← is)
+pub absent_as : (r : Row) (ms : Members) (s inner : Setting) (n : ℕ) → None ≡ get_member (key_of r.field) ms
+    → field_as (row_view r) (member_as ms (key_of r.field)) s inner n ≡ allowed (missing_doc (row_view r)) n
+absent_as r ms s inner n is = rw (member_as-get_member ms (key_of r.field), ← is)

@@ -3,6 +3,7 @@ ghost use Rattle.std.specs.Prelude.{map};
 ghost use Rattle.std.specs.Fmt.{decimal};
 ghost use Rattle.serde_json.specs.Data.{object};
 ghost use Rattle.serde_json.specs.View.{view, items_view, members_view};
+ghost use Rattle.oxt_grammar.specs.Keys.{key_of};
 ghost use Rattle.oxt_grammar.specs.Field.{row_view};
 ghost use Rattle.oxt_tree.specs.View.{part_doc, node_doc};
 ghost use Rattle.oxt_json.specs.Answer.{below};
@@ -149,14 +150,14 @@ fn read_field(
     ids: &mut NodeIds,
 ) -> Result<Part, Misread>
     ensures { Gives part_doc result ids.new.next
-        (below row.now.name.now (field_as (row_view row.now)
-        (member_as (members_view members.now.entries) row.now.name.now)
+        (below (key_of row.now.field) (field_as (row_view row.now)
+        (member_as (members_view members.now.entries) (key_of row.now.field))
         setting inner ids.old.next)) }
 {
-    match member(members, row.name) {
+    match member(members, row.name()) {
         Some(value) => read_value(alloc, value, inner, row.holds.within(setting), ids).map_err(
-            |misread| misread.below(alloc, row.name),
+            |misread| misread.below(alloc, row.name()),
         ),
-        None => missing_part(alloc, row).ok_or_else(|| Misread::at(alloc, row.name)),
+        None => missing_part(alloc, row).ok_or_else(|| Misread::at(alloc, row.name())),
     }
 }

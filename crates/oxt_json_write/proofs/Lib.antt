@@ -1,3 +1,7 @@
-pub mod Floats
+pub mod InOrder
+pub mod Insertion
+pub mod Laid
 pub mod Loops
-pub mod Members
+pub mod Nodes
+pub mod ReadBack
+pub mod Whole

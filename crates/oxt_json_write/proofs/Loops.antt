@@ -1,46 +1,44 @@
--- The two loops of the writer: what is done, and what is left.
-use Rattle.std.proofs.Common.{◌≡◌, ◌∙◌, refl, sym, ap, subst, ℕ, ◌+◌, ◌<◌, ◌≤◌, List, [], ◌∷◌, ◌++◌, map, length, drop, get_or, add-one, append_assoc, append-nil, drop-cons}
-use Rattle.std.proofs.lemmas.List.{drop_all, map-append}
-use Rattle.oxt_json_write.specs.Spelled.{data_of, each_data, put_field, put_fields}
+-- Fields by their places, and the two loops of the writer: what is written, and what is left.
+use Rattle.std.proofs.Common.{◌≡◌, refl, sym, ap, ap₂, ℕ, zero, suc, ◌<◌, ◌≤◌, List, [], ◌∷◌, None, map, length, drop, get_or, arith}
 use Rattle.oxt_grammar.specs.Field.{Field, row_view}
+use Rattle.oxt_grammar.specs.Keys.{key_of}
 use Rattle.oxt_grammar.specs.declared.holds.Row.{Row}
-use Rattle.oxt_tree.specs.Doc.{no_docs}
+use Rattle.oxt_json_write.specs.Slots.{name_at, written, field_data}
+use Rattle.oxt_json_write.specs.Spelled.{each_data}
+use Rattle.oxt_tree.specs.Doc.{Docs, no_docs, doc}
 use Rattle.oxt_tree.specs.View.{docs_in, part_doc}
 use Rattle.oxt_tree.specs.declared.tree.Part.{Part}
-use Rattle.serde_json.specs.Data.{Data, Members}
-use Rattle.serde_json.specs.View.{view, items_of}
-use Rattle.serde_json.specs.declared.value.Value.{Value}
+use Rattle.serde_json.specs.Data.{Items}
+use Rattle.serde_json.specs.View.{items_of}
+
+-- ---- the field at a place
+
+pub field_here : (rows : List Row) (parts : List Part) (i : ℕ) (r : Row) (p : Part) → i < length rows → i < length parts → r ≡ get_or rows i r → p ≡ get_or parts i p
+    → field_data i (map row_view rows) (docs_in parts) ≡ written (row_view r) (part_doc p)
+field_here [] parts i r p within within_parts is_row is_part = absurd (omega arith)
+field_here (s ∷ rows) [] i r p within within_parts is_row is_part = absurd (omega arith)
+field_here (s ∷ rows) (q ∷ parts) zero r p within within_parts is_row is_part = ap₂ (λ (a : Row) (b : Part). written (row_view a) (part_doc b)) (sym is_row) (sym is_part)
+field_here (s ∷ rows) (q ∷ parts) (suc i) r p within within_parts is_row is_part = field_here rows parts i r p (omega arith) (omega arith) is_row is_part
+
+pub name_here : (rows : List Row) (i : ℕ) (r : Row) → i < length rows → r ≡ get_or rows i r → name_at i (map row_view rows) ≡ key_of r.field
+name_here [] i r within is = absurd (omega arith)
+name_here (s ∷ rows) zero r within is = ap (λ (a : Row). key_of a.field) (sym is)
+name_here (s ∷ rows) (suc i) r within is = name_here rows i r (omega arith) is
+
+pub no_row : (rows : List Row) (i : ℕ) (ds : Docs) → length rows ≤ i → field_data i (map row_view rows) ds ≡ None
+no_row [] i ds past = refl
+no_row (s ∷ rows) zero ds past = absurd (omega arith)
+no_row (s ∷ rows) (suc i) no_docs past = refl
+no_row (s ∷ rows) (suc i) (doc d ds) past = no_row rows i ds (omega arith)
+
+pub no_part : (rs : List Field) (i : ℕ) (parts : List Part) → length parts ≤ i → field_data i rs (docs_in parts) ≡ None
+no_part [] i parts past = refl
+no_part (r ∷ rs) i [] past = refl
+no_part (r ∷ rs) zero (p ∷ parts) past = absurd (omega arith)
+no_part (r ∷ rs) (suc i) (p ∷ parts) past = no_part rs i parts (omega arith)
+
+-- ---- the items of an array
 
 -- the data of the parts from a place on
-abbrev pub data_from : ℕ → List Part → List Data
-data_from i parts = each_data (docs_in (drop i parts))
-
-pub item_more : (whole : List Data) (parts : List Part) (i : ℕ) (p : Part) (vs : List Value) (v : Value) → i < length parts → p ≡ get_or parts i p → view v ≡ data_of (part_doc p)
-    → whole ≡ map view vs ++ data_from i parts → whole ≡ map view (vs ++ v ∷ []) ++ data_from (i + 1) parts
-item_more whole parts i p vs v within at is so_far =
-    let same : data_of (part_doc (get_or parts i p)) ≡ view v = subst (λ (q : Part). data_of (part_doc q) ≡ view v) at (sym is) in
-    so_far ∙ rw (drop-cons parts i p, add-one, map-append, append_assoc, same) refl
-
-pub no_more_items : (whole : List Data) (parts : List Part) (i : ℕ) (vs : List Value) → length parts ≤ i → whole ≡ map view vs ++ data_from i parts → items_of (map view vs) ≡ items_of whole
-no_more_items whole parts i vs past so_far = sym (ap items_of (so_far ∙ rw (drop_all i parts past, append-nil) refl))
-
--- the members when the fields from a place on are put too
-abbrev pub put_from : ℕ → List Row → List Part → Members → Members
-put_from i rows parts ms = put_fields (map row_view (drop i rows)) (docs_in (drop i parts)) (data_from i parts) ms
-
-pub field_more : (whole : Members) (rows : List Row) (parts : List Part) (i : ℕ) (r : Row) (p : Part) (old new : Members) → i < length rows → i < length parts → p ≡ get_or parts i p
-    → new ≡ put_field (row_view (get_or rows i r)) (part_doc p) (data_of (part_doc p)) old → whole ≡ put_from i rows parts old → whole ≡ put_from (i + 1) rows parts new
-field_more whole rows parts i r p old new within within_parts at is so_far =
-    let same : new ≡ put_field (row_view (get_or rows i r)) (part_doc (get_or parts i p)) (data_of (part_doc (get_or parts i p))) old =
-    subst (λ (q : Part). new ≡ put_field (row_view (get_or rows i r)) (part_doc q) (data_of (part_doc q)) old) at is in
-    so_far ∙ rw (drop-cons rows i r, drop-cons parts i p, add-one, same) refl
-
-no_fields : (rs : List Field) (ms : Members) → put_fields rs no_docs [] ms ≡ ms
-no_fields [] ms = refl
-no_fields (r ∷ rs) ms = refl
-
-pub no_more_parts : (whole : Members) (rows : List Row) (parts : List Part) (i : ℕ) (ms : Members) → length parts ≤ i → whole ≡ put_from i rows parts ms → ms ≡ whole
-no_more_parts whole rows parts i ms past so_far = sym (so_far ∙ rw (drop_all i parts past) (no_fields (map row_view (drop i rows)) ms))
-
-pub no_more_fields : (whole : Members) (rows : List Row) (parts : List Part) (i : ℕ) (ms : Members) → length rows ≤ i → whole ≡ put_from i rows parts ms → ms ≡ whole
-no_more_fields whole rows parts i ms past so_far = sym (so_far ∙ rw (drop_all i rows past))
+abbrev pub items_from : ℕ → List Part → Items
+items_from i parts = items_of (each_data (docs_in (drop i parts)))

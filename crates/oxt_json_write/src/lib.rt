@@ -1,20 +1,32 @@
 //! Writes a tree as JSON.
 #![tactic(auto)]
 
-ghost use Rattle.std.specs.Prelude.{◌≡◌, IfOk, OnOk, map};
-ghost use Rattle.oxt_json_write.specs.Spelled.{text_of, data_of, each_data, put_field, put_fields, put_offset, heading, ReadsBack};
+ghost use Rattle.std.specs.Prelude.{◌≡◌, ◌++◌, IfOk, OnOk, Some, map, codes};
+ghost use Rattle.oxt_json_write.specs.Numbers.{DataFits, ItemsFit, MembersFit, MaybeFits};
+ghost use Rattle.oxt_json_write.specs.Order.{order_of};
+ghost use Rattle.oxt_json_write.specs.Slots.{name_at, key_at, offset_data, written, field_data, data_at, laid_node};
+ghost use Rattle.oxt_json_write.specs.Spelled.{text_of, data_of, each_data, ReadsBack};
+ghost use Rattle.oxt_json_write.specs.Tokens.{tokens_of, member_tokens, one_member};
 ghost use Rattle.oxt_grammar.specs.Field.{row_view};
+ghost use Rattle.oxt_grammar.specs.Keys.{key_of};
+ghost use Rattle.oxt_grammar.specs.Kinds.{name_of};
+ghost use Rattle.oxt_grammar.specs.Rows.{row_of};
 ghost use Rattle.oxt_tree.specs.View.{docs_in, node_doc, part_doc};
-ghost use Rattle.serde_json.specs.Data.{array, put};
-ghost use Rattle.serde_json.specs.View.{view, items_of, members_view};
+ghost use Rattle.serde_json.specs.Data.{array, string};
+ghost use Rattle.serde_json.specs.View.{items_of};
 ghost use Rattle.serde_json.specs.Written.{IsInOrder};
 ghost use Rattle.std.specs.Str.{IsUtf8};
 
+mod order;
+mod slot;
+
+use json::Writer;
+use order::order_of;
 use oxt_grammar::holds::Row;
 use oxt_grammar::kind::Kind;
 use oxt_tree::ids::{OutOfMemory, Span};
 use oxt_tree::tree::{Node, Part, Program};
-use serde_json::{Map, Value};
+use slot::Slot;
 use std::alloc::Global;
 
 /// The tree as compact JSON, with keys in the order of their bytes and without the fields that
@@ -29,125 +41,155 @@ pub fn write_tree(alloc: Global, program: &Program) -> Result<Vec<u8>, OutOfMemo
     ensures in_order { IfOk result (λ bytes. IsInOrder bytes.items (data_of (node_doc program.now.root))) }
     ensures reads_back { IfOk result (λ bytes. ReadsBack bytes.items (data_of (node_doc program.now.root))) }
 {
-    let value = node_value(alloc, &program.root)?;
-    Ok(value.to_vec(alloc)?)
+    let mut out = Writer::new(Vec::new(alloc));
+    write_node(&program.root, &mut out)?;
+    Ok(out.into_inner())
 }
 
-/// The object of a node.
+/// Writes the object of a node.
 #[cycle(spelling)]
-fn node_value(alloc: Global, node: &Node) -> Result<Value, OutOfMemory>
-    ensures { IfOk result (λ value. view value ≡ data_of (node_doc node.now)) }
+fn write_node(node: &Node, out: &mut Writer) -> Result<(), OutOfMemory>
+    ensures before { out.new.before ≡ out.old.before }
+    ensures tokens { OnOk result (out.new.tokens ≡ out.old.tokens ++ tokens_of (data_of (node_doc node.now))) }
+    ensures numbers { OnOk result (DataFits (data_of (node_doc node.now))) }
 {
-    let mut members = heading(alloc, node.kind, node.span)?;
-    put_fields(alloc, node.kind.rows(), node.parts.as_slice(), &mut members)?;
-    Ok(Value::Object(members))
+    out.begin_object()?;
+    write_members(node.kind, node.span, node.parts.as_slice(), out)
 }
 
-/// Puts the fields of the rows. What has no row is not written.
+/// Writes the members of the object of a node, and closes it.
 #[cycle(spelling)]
-#[tactic(auto, using(crate::proofs::Loops::field_more, crate::proofs::Loops::no_more_fields))]
-fn put_fields(
-    alloc: Global,
-    rows: &[Row],
+fn write_members(
+    kind: Kind,
+    span: Span,
     parts: &[Part],
-    members: &mut Map<String, Value>,
+    out: &mut Writer,
 ) -> Result<(), OutOfMemory>
-    ensures { OnOk result (members_view members.new.entries
-        ≡ put_fields (map row_view rows.now) (docs_in parts.now) (each_data (docs_in parts.now)) (members_view members.old.entries)) }
+    ensures before { out.new.before ≡ out.old.before }
+    ensures tokens { OnOk result (out.new.tokens
+        ≡ out.old.tokens ++ member_tokens (laid_node kind span.start span.end (docs_in parts.now) (order_of kind))) }
+    ensures numbers { OnOk result (MembersFit (laid_node kind span.start span.end (docs_in parts.now) (order_of kind))) }
 {
-    for (place, row) in rows.iter().enumerate() {
-        match parts.get(place) {
-            Some(part) => put_field(alloc, row, part, members)?,
-            None => return Ok(()),
-        }
+    for slot in order_of(kind) {
+        write_slot(kind, span, parts, *slot, out)?;
     }
+    out.end_object()?;
     Ok(())
 }
 
-/// Puts a field, unless it is left out.
+/// Writes what stands at a slot of the object of a node.
 #[cycle(spelling)]
-fn put_field(
-    alloc: Global,
-    row: &Row,
-    part: &Part,
-    members: &mut Map<String, Value>,
+fn write_slot(
+    kind: Kind,
+    span: Span,
+    parts: &[Part],
+    slot: Slot,
+    out: &mut Writer,
 ) -> Result<(), OutOfMemory>
-    ensures { OnOk result (members_view members.new.entries
-        ≡ put_field (row_view row.now) (part_doc part.now) (data_of (part_doc part.now)) (members_view members.old.entries)) }
+    ensures before { out.new.before ≡ out.old.before }
+    ensures tokens { OnOk result (out.new.tokens
+        ≡ out.old.tokens ++ one_member (key_at (row_of kind) slot) (data_at kind span.start span.end (docs_in parts.now) slot)) }
+    ensures numbers { OnOk result (MaybeFits (data_at kind span.start span.end (docs_in parts.now) slot)) }
+{
+    match slot {
+        Slot::Type => write_kind(kind, out),
+        Slot::Start => write_offset("start", span.start, out),
+        Slot::End => write_offset("end", span.end, out),
+        Slot::Field(place) => write_field_at(kind.rows(), parts, place, out),
+    }
+}
+
+/// Writes the field at a place. There is none without a row or without a part.
+#[cycle(spelling)]
+fn write_field_at(
+    rows: &[Row],
+    parts: &[Part],
+    place: usize,
+    out: &mut Writer,
+) -> Result<(), OutOfMemory>
+    ensures before { out.new.before ≡ out.old.before }
+    ensures tokens { OnOk result (out.new.tokens
+        ≡ out.old.tokens ++ one_member (name_at place (map row_view rows.now)) (field_data place (map row_view rows.now) (docs_in parts.now))) }
+    ensures numbers { OnOk result (MaybeFits (field_data place (map row_view rows.now) (docs_in parts.now))) }
+{
+    let Some(row) = rows.get(place) else {
+        return Ok(());
+    };
+    match parts.get(place) {
+        Some(part) => write_field(row, part, out),
+        None => Ok(()),
+    }
+}
+
+/// Writes a field, unless it is left out.
+#[cycle(spelling)]
+fn write_field(row: &Row, part: &Part, out: &mut Writer) -> Result<(), OutOfMemory>
+    ensures before { out.new.before ≡ out.old.before }
+    ensures tokens { OnOk result (out.new.tokens
+        ≡ out.old.tokens ++ one_member (key_of row.now.field) (written (row_view row.now) (part_doc part.now))) }
+    ensures numbers { OnOk result (MaybeFits (written (row_view row.now) (part_doc part.now))) }
 {
     if part.is_left_out(row) {
         return Ok(());
     }
-    let value = part_value(alloc, part)?;
-    put(alloc, row.name, value, members)
+    out.key(row.name())?;
+    write_part(part, out)
 }
 
-/// The value of what a field or an element holds.
+/// Writes what a field or an element holds.
 #[cycle(spelling)]
-fn part_value(alloc: Global, part: &Part) -> Result<Value, OutOfMemory>
-    ensures { IfOk result (λ value. view value ≡ data_of (part_doc part.now)) }
+fn write_part(part: &Part, out: &mut Writer) -> Result<(), OutOfMemory>
+    ensures before { out.new.before ≡ out.old.before }
+    ensures tokens { OnOk result (out.new.tokens ≡ out.old.tokens ++ tokens_of (data_of (part_doc part.now))) }
+    ensures numbers { OnOk result (DataFits (data_of (part_doc part.now))) }
 {
-    Ok(match part {
-        Part::Nothing => Value::Null,
-        Part::Flag(flag) => Value::Bool(*flag),
-        Part::Number(number) => Value::from(*number),
-        Part::Text(name) => Value::try_from_str(alloc, name.as_str())?,
-        Part::Word(word) => Value::try_from_str(alloc, word.text())?,
-        Part::Node(node) => node_value(alloc, node)?,
-        Part::List(parts) => list_value(alloc, parts.as_slice())?,
-    })
-}
-
-/// The array of a list.
-#[cycle(spelling)]
-#[tactic(auto, using(crate::proofs::Loops::item_more, crate::proofs::Loops::no_more_items))]
-fn list_value(alloc: Global, parts: &[Part]) -> Result<Value, OutOfMemory>
-    ensures { IfOk result (λ value. view value ≡ array (items_of (each_data (docs_in parts.now)))) }
-{
-    let mut items = Vec::with_capacity(alloc, parts.len())?;
-    for part in parts {
-        items.push(part_value(alloc, part)?)?;
+    match part {
+        Part::Nothing => out.null()?,
+        Part::Flag(flag) => out.boolean(*flag)?,
+        Part::Number(number) => out.u64(*number)?,
+        Part::Text(name) => out.string(name.as_str())?,
+        Part::Word(word) => out.string(word.text())?,
+        Part::Node(node) => write_node(node, out)?,
+        Part::List(parts) => write_list(parts.as_slice(), out)?,
     }
-    Ok(Value::Array(items))
+    Ok(())
 }
 
-/// What every node has beside the fields of its kind.
-fn heading(alloc: Global, kind: Kind, span: Span) -> Result<Map<String, Value>, OutOfMemory>
-    ensures { IfOk result (λ members. members_view members.entries ≡ heading kind span.start span.end) }
+/// Writes the array of a list.
+#[cycle(spelling)]
+fn write_list(parts: &[Part], out: &mut Writer) -> Result<(), OutOfMemory>
+    ensures before { out.new.before ≡ out.old.before }
+    ensures tokens { OnOk result (out.new.tokens ≡ out.old.tokens ++ tokens_of (array (items_of (each_data (docs_in parts.now))))) }
+    ensures numbers { OnOk result (ItemsFit (items_of (each_data (docs_in parts.now)))) }
 {
-    let mut members = Map::new(alloc);
-    let name = Value::try_from_str(alloc, kind.name())?;
-    put(alloc, "type", name, &mut members)?;
-    put_offset(alloc, "start", span.start, &mut members)?;
-    put_offset(alloc, "end", span.end, &mut members)?;
-    Ok(members)
+    out.begin_array()?;
+    for part in parts {
+        write_part(part, out)?;
+    }
+    out.end_array()?;
+    Ok(())
 }
 
-/// Puts an offset into the source text, unless it is 0.
-fn put_offset(
-    alloc: Global,
-    name: &str,
-    offset: u32,
-    members: &mut Map<String, Value>,
-) -> Result<(), OutOfMemory>
-    ensures { OnOk result (members_view members.new.entries ≡ put_offset name.now offset (members_view members.old.entries)) }
+/// Writes the kind of a node.
+fn write_kind(kind: Kind, out: &mut Writer) -> Result<(), OutOfMemory>
+    ensures before { out.new.before ≡ out.old.before }
+    ensures tokens { OnOk result (out.new.tokens ≡ out.old.tokens ++ one_member (codes "type") (Some (string (name_of kind)))) }
+{
+    out.key("type")?;
+    out.string(kind.name())?;
+    Ok(())
+}
+
+/// Writes an offset into the source text, unless it is 0.
+fn write_offset(name: &str, offset: u32, out: &mut Writer) -> Result<(), OutOfMemory>
+    ensures before { out.new.before ≡ out.old.before }
+    ensures tokens { OnOk result (out.new.tokens ≡ out.old.tokens ++ one_member name.now (offset_data offset)) }
+    ensures numbers { MaybeFits (offset_data offset) }
 {
     if offset == 0 {
         return Ok(());
     }
-    put(alloc, name, Value::from(offset), members)
-}
-
-/// Puts a value under a name.
-#[tactic(auto, using(crate::proofs::Members::inserted))]
-fn put(
-    alloc: Global,
-    name: &str,
-    value: Value,
-    members: &mut Map<String, Value>,
-) -> Result<(), OutOfMemory>
-    ensures { OnOk result (members_view members.new.entries ≡ put name.now (view value) (members_view members.old.entries)) }
-{
-    members.insert(String::from_str(alloc, name)?, value)?;
+    out.key(name)?;
+    out.u64(u64::from(offset))?;
     Ok(())
 }

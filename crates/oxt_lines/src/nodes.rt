@@ -1,6 +1,7 @@
 //! Nodes that are made, and nodes that are read.
 
 use crate::stopped::Stopped;
+use oxt_grammar::field::Field;
 use oxt_grammar::kind::Kind;
 use oxt_json::read_tree;
 use oxt_tree::ids::{NodeId, Span};
@@ -53,17 +54,9 @@ pub fn tree_of(alloc: Global, bytes: &[u8]) -> Result<Program, Stopped> {
     }
 }
 
-/// The node that stands below that one in the field of the name.
-pub fn child<'n>(node: &'n Node, field: &str) -> Option<&'n Node> {
-    match node.field(field) {
-        Some(part) => part.as_node(),
-        None => None,
-    }
-}
-
 /// The statement at that place of the program.
 pub fn statement_at(program: &Node, place: usize) -> Option<&Node> {
-    match program.list("body").get(place) {
+    match program.list(Field::Body).get(place) {
         Some(part) => part.as_node(),
         None => None,
     }
@@ -72,7 +65,7 @@ pub fn statement_at(program: &Node, place: usize) -> Option<&Node> {
 /// The expression of the first statement.
 pub fn first_expression(program: &Node) -> Option<&Node> {
     match statement_at(program, 0) {
-        Some(statement) => child(statement, "expression"),
+        Some(statement) => statement.child(Field::Expression),
         None => None,
     }
 }

@@ -1,6 +1,7 @@
 //! Trees as texts.
 
 use crate::stopped::Stopped;
+use oxt_grammar::field::Field;
 use oxt_grammar::kind::Kind;
 use oxt_tree::tree::{Node, Part};
 use std::alloc::{AllocError, Global};
@@ -36,8 +37,8 @@ fn push_letter(text: &mut String, number: u64) -> Result<(), AllocError> {
 
 /// Adds a declaration of variables.
 pub fn push_declaration(text: &mut String, node: &Node) -> Result<(), AllocError> {
-    push_text(text, node.field("kind"))?;
-    let declarators = node.list("declarations");
+    push_text(text, node.field(Field::Kind))?;
+    let declarators = node.list(Field::Declarations);
     for i in 0..declarators.len() {
         text.push_str(before(i))?;
         push_declarator(text, &declarators[i])?;
@@ -55,12 +56,12 @@ fn push_declarator(text: &mut String, part: &Part) -> Result<(), AllocError> {
     let Part::Node(node) = part else {
         return text.push('?');
     };
-    push_first(text, node.field("id"))?;
-    if node.lacks("init") {
+    push_first(text, node.field(Field::Id))?;
+    if node.lacks(Field::Init) {
         return Ok(());
     }
     text.push_str(" = ")?;
-    push_first(text, node.field("init"))
+    push_first(text, node.field(Field::Init))
 }
 
 /// Adds what the first field of a node holds.

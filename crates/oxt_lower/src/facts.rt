@@ -4,6 +4,7 @@ ghost use Rattle.std.specs.Prelude.{◌<◌, IfOk, IfSome, length};
 use crate::syntax::any_call;
 use oxt_ctx::context::TraverseCtx;
 use oxt_declares::names::{field_within, list_within};
+use oxt_grammar::field::Field;
 use oxt_names::ids::{ScopeId, SymbolId};
 use oxt_scoping::scoping::Scoping;
 use oxt_tree::ids::{NodeId, OutOfMemory};
@@ -43,7 +44,7 @@ impl BlockFacts {
             symbol,
             is_first: ctx.plan.is_first(declaration.id),
             is_let: is_exported || !is_top(&ctx.scoping, symbol),
-            is_pure: !any_call(list_within(declaration, "body", "members")),
+            is_pure: !any_call(list_within(declaration, Field::Body, Field::Members)),
         })
     }
 }
@@ -51,7 +52,7 @@ impl BlockFacts {
 /// The name of the enum; the empty one where it has none.
 fn name_of(declaration: &Node) -> Result<Name, OutOfMemory> {
     let alloc = *declaration.parts.allocator();
-    match field_within(declaration, "id", "name") {
+    match field_within(declaration, Field::Id, Field::Name) {
         Some(part) => text_of(alloc, part),
         None => Name::new(alloc, ""),
     }
@@ -70,7 +71,7 @@ pub fn text_of(alloc: Global, part: &Part) -> Result<Name, OutOfMemory> {
 fn symbol_of(scoping: &Scoping, declaration: &Node) -> Option<SymbolId>
     ensures live { IfSome result (λ enum. enum.0 < length scoping.now.symbols) }
 {
-    scoping.symbol_of(number_of(declaration.field("id")))
+    scoping.symbol_of(number_of(declaration.field(Field::Id)))
 }
 
 /// The number of the node, and 0 for anything else.

@@ -1,8 +1,8 @@
 //! The members of an enum as they will be written.
 
 use crate::rename::IdentifierReferenceRename;
-use oxt_declares::declares::text_of;
-use oxt_declares::names::{field_of, list_of};
+use oxt_declares::declares::member_name;
+use oxt_grammar::field::Field;
 use oxt_grammar::kind::Kind;
 use oxt_names::constant::ConstantValue;
 use oxt_scoping::scoping::Scoping;
@@ -77,7 +77,7 @@ fn value_of(
 ) -> Result<Value, OutOfMemory> {
     match constant_of(renames.scoping, part) {
         Some(constant) => Ok(Value::Constant(constant.share()?)),
-        None => written(alloc, renames, before, take_from(part, "initializer")),
+        None => written(alloc, renames, before, take_from(part, Field::Initializer)),
     }
 }
 
@@ -115,52 +115,33 @@ fn constant_of<'a>(scoping: &'a Scoping, part: &Part) -> Option<&'a ConstantValu
 
 /// The name of the member that the part is; the empty one where it has none.
 fn name_of(alloc: Global, part: &Part) -> Result<Name, OutOfMemory> {
-    match field_of(part, "id") {
-        Some(id) => Name::new(alloc, spelling_of(id).unwrap_or("")),
+    match part.field(Field::Id) {
+        Some(id) => Name::new(alloc, member_name(id).unwrap_or("")),
         None => Name::new(alloc, ""),
-    }
-}
-
-/// The spelling of the name of a member: a name, a text, or the text of a template.
-fn spelling_of<'a>(part: &'a Part) -> Option<&'a str> {
-    let Part::Node(node) = part else {
-        return None;
-    };
-    if node.kind.is(Kind::TemplateLiteral) {
-        return text_of(template_text(part));
-    }
-    text_of(node.parts.first())
-}
-
-/// The text of a template, with its escapes read.
-fn template_text<'a>(part: &'a Part) -> Option<&'a Part> {
-    match list_of(part, "quasis").first() {
-        Some(first) => field_of(first, "cooked"),
-        None => None,
     }
 }
 
 /// Takes the members out of the enum.
 pub fn take_members(declaration: &mut Node) -> Vec<Part> {
     let alloc = *declaration.parts.allocator();
-    let mut body = take_field(declaration, "body");
-    match take_from(&mut body, "members") {
+    let mut body = take_field(declaration, Field::Body);
+    match take_from(&mut body, Field::Members) {
         Part::List(members) => members,
         _ => Vec::new(alloc),
     }
 }
 
 /// Takes what the field of that name of the node that the part is holds.
-fn take_from(part: &mut Part, name: &str) -> Part {
+fn take_from(part: &mut Part, field: Field) -> Part {
     match part {
-        Part::Node(node) => take_field(node, name),
+        Part::Node(node) => take_field(node, field),
         _ => Part::Nothing,
     }
 }
 
 /// Takes what the field of that name holds.
-fn take_field(node: &mut Node, name: &str) -> Part {
-    match place_of(node.kind.rows(), name) {
+fn take_field(node: &mut Node, field: Field) -> Part {
+    match place_of(node.kind.rows(), field) {
         Some(place) if place < node.parts.len() => node.parts[place].take(),
         _ => Part::Nothing,
     }

@@ -22,6 +22,7 @@ use crate::nodes::{member, property_name, reference};
 use crate::shorthand::open_properties;
 use bitflags::Flags;
 use oxt_ctx::context::TraverseCtx;
+use oxt_grammar::field::Field;
 use oxt_grammar::kind::Kind;
 use oxt_names::flags::{ReferenceFlags, SymbolFlags};
 use oxt_names::ids::{ScopeId, SymbolId};
@@ -169,6 +170,12 @@ impl<'a> VisitJsMut for IdentifierReferenceRename<'a> {
             Ok(())
         }
     }
+
+    fn enter_scope(&mut self, _node: NodeId) -> Result<(), OutOfMemory> {
+        Ok(())
+    }
+
+    fn leave_scope(&mut self) {}
 }
 
 /// `object.name`, of the names.
@@ -187,7 +194,7 @@ fn member_of(
 
 /// The name that the node is.
 fn name_of(alloc: Global, node: &Node) -> Result<Name, OutOfMemory> {
-    match node.field("name") {
+    match node.field(Field::Name) {
         Some(part) => text_of(alloc, part),
         None => Name::new(alloc, ""),
     }

@@ -5,6 +5,7 @@ ghost use Rattle.oxt_tree.specs.Doc.{list};
 ghost use Rattle.oxt_tree.specs.View.{docs_in, node_doc, part_doc};
 
 use crate::rename::IdentifierReferenceRename;
+use oxt_grammar::field::Field;
 use oxt_grammar::kind::Kind;
 use oxt_tree::tree::{Node, Part};
 
@@ -53,7 +54,7 @@ fn opens(renames: &IdentifierReferenceRename, property: &Node) -> bool {
     if !property.kind.is(Kind::ObjectProperty) {
         return false;
     }
-    match property.field("value") {
+    match property.field(Field::Value) {
         Some(Part::Node(value)) => renames.is_renamed(value),
         _ => false,
     }

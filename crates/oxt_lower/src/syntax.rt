@@ -1,6 +1,6 @@
 //! What initializers are by their syntax.
 
-use oxt_declares::names::field_of;
+use oxt_grammar::field::Field;
 use oxt_grammar::kind::Kind;
 use oxt_tree::tree::{Node, Part};
 
@@ -37,12 +37,12 @@ fn part_is_text(part: &Part) -> bool {
 
 /// Whether the expression is `a + b`.
 fn is_sum(node: &Node) -> bool {
-    node.kind.is(Kind::BinaryExpression) && node.holds_text("operator", "+")
+    node.kind.is(Kind::BinaryExpression) && node.holds_text(Field::Operator, "+")
 }
 
 /// Whether the initializer of one of the members is itself a call or `new`.
 pub fn any_call(members: &[Part]) -> bool {
-    members.iter().any(|member| match field_of(member, "initializer") {
+    members.iter().any(|member| match member.field(Field::Initializer) {
         Some(initializer) => {
             initializer.is_kind(Kind::CallExpression) || initializer.is_kind(Kind::NewExpression)
         }

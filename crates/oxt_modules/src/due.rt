@@ -7,6 +7,7 @@ ghost use Rattle.oxt_options.specs.Facts.{is_in};
 ghost use Rattle.oxt_tree.specs.View.{node_doc, part_doc};
 
 use crate::removed::{is_listing, is_removed};
+use oxt_grammar::field::Field;
 use oxt_grammar::kind::Kind;
 use oxt_options::plan::Plan;
 use oxt_tree::tree::{Node, Part};
@@ -17,7 +18,7 @@ use oxt_tree::tree::{Node, Part};
 pub fn is_export_due(program: &Node, plan: &Plan, only_remove_type_imports: bool) -> bool
     ensures { result ≡ is_export_due (is_in plan.now.kept) only_remove_type_imports (node_doc program.now) }
 {
-    let statements = program.list("body");
+    let statements = program.list(Field::Body);
     !program.is_definition_file()
         && is_any_removed(plan, only_remove_type_imports, statements)
         && !is_any_staying(plan, only_remove_type_imports, statements)

@@ -11,6 +11,7 @@ ghost use Rattle.oxt_tree.specs.View.{doc_or_nil, docs_in, node_doc, part_doc};
 use crate::jsx::{JsxUse, is_jsx_name, jsx_use};
 use crate::names::{is_declared_again, is_name_kept, is_used};
 use crate::symbols::Symbols;
+use oxt_grammar::field::Field;
 use oxt_grammar::kind::Kind;
 use oxt_options::TypeScriptOptions;
 use oxt_scoping::scoping::Scoping;
@@ -47,7 +48,7 @@ pub fn kept_specifiers(
     let symbols = Symbols::of(alloc, scoping)?;
     let jsx = jsx_use(program);
     let mut out = Vec::new(alloc);
-    push_statements(&symbols, options, jsx, program.list("body"), &mut out)?;
+    push_statements(&symbols, options, jsx, program.list(Field::Body), &mut out)?;
     Ok(out)
 }
 
@@ -105,7 +106,7 @@ fn push_statement(
     }
     match place_of(node.kind) {
         Some(place) => {
-            let parts = node.list("specifiers");
+            let parts = node.list(Field::Specifiers);
             push_specifiers(symbols, options, jsx, place, parts, out)
         }
         None => push_default(symbols, node, out),
@@ -196,9 +197,9 @@ fn is_kept(
     match place {
         Place::Import => {
             options.only_remove_type_imports
-                || is_local_kept(symbols, options, jsx, node.field("local"))
+                || is_local_kept(symbols, options, jsx, node.field(Field::Local))
         }
-        Place::Export => is_spelling_kept(symbols, node.field("local")),
+        Place::Export => is_spelling_kept(symbols, node.field(Field::Local)),
         Place::ExportFrom => true,
     }
 }
@@ -233,7 +234,7 @@ fn is_jsx_binding(options: &TypeScriptOptions, jsx: JsxUse, node: &Node) -> bool
     ensures { result ≡ is_jsx_text (typescript_view options.now) jsx
         (named (codes "name") node.now.kind (docs_in node.now.parts.items)) }
 {
-    match node.field("name") {
+    match node.field(Field::Name) {
         Some(part) => is_jsx_part(options, jsx, part),
         None => false,
     }
@@ -256,7 +257,7 @@ fn is_spelling_kept(symbols: &Symbols, local: Option<&Part>) -> bool
     ensures { result ≡ is_spelling_kept symbols.now.scoping.now (doc_or_nil local.entry) }
 {
     match local {
-        Some(Part::Node(node)) => is_text_kept(symbols, node.field("name")),
+        Some(Part::Node(node)) => is_text_kept(symbols, node.field(Field::Name)),
         _ => true,
     }
 }
@@ -280,7 +281,7 @@ fn push_default(symbols: &Symbols, node: &Node, out: &mut Vec<NodeId>) -> Result
         ++ kept_default symbols.now.scoping.now node.now.kind (docs_in node.now.parts.items)) }
 {
     if node.kind.is(Kind::ExportDefaultDeclaration) {
-        push_exported(symbols, node.field("declaration"), out)
+        push_exported(symbols, node.field(Field::Declaration), out)
     } else {
         Ok(())
     }
@@ -307,5 +308,5 @@ fn is_reference_kept(symbols: &Symbols, node: &Node) -> bool
     requires { IsAnswered symbols.now }
     ensures { result ≡ is_reference_kept symbols.now.scoping.now node.now.kind (docs_in node.now.parts.items) }
 {
-    node.kind.is(Kind::IdentifierReference) && is_text_kept(symbols, node.field("name"))
+    node.kind.is(Kind::IdentifierReference) && is_text_kept(symbols, node.field(Field::Name))
 }

@@ -8,6 +8,7 @@ ghost use Rattle.oxt_tree.specs.Fields.{is_empty_list, named};
 ghost use Rattle.oxt_tree.specs.View.{docs_in, node_doc, part_doc};
 ghost use Rattle.oxt_unbuilt.specs.Dropped.{is_dropped};
 
+use oxt_grammar::field::Field;
 use oxt_grammar::kind::Kind;
 use oxt_options::plan::Plan;
 use oxt_tree::tree::{Node, Part};
@@ -76,9 +77,9 @@ pub fn node_is_removed(plan: &Plan, all: bool, node: &Node) -> bool
 {
     let kind = node.kind;
     if kind.is(Kind::ImportDeclaration) {
-        node.is_type_only() || (!all && loses_all(plan, node.list("specifiers")))
+        node.is_type_only() || (!all && loses_all(plan, node.list(Field::Specifiers)))
     } else if is_export_list(kind) {
-        node.is_type_only() || loses_all(plan, node.list("specifiers"))
+        node.is_type_only() || loses_all(plan, node.list(Field::Specifiers))
     } else if kind.is(Kind::ExportAllDeclaration) {
         node.is_type_only()
     } else if kind.is(Kind::ExportDeclaration) {
@@ -94,7 +95,7 @@ pub fn node_is_removed(plan: &Plan, all: bool, node: &Node) -> bool
 fn exports_nothing(node: &Node) -> bool
     ensures { result ≡ is_dropped (named (codes "declaration") node.now.kind (docs_in node.now.parts.items)) }
 {
-    match node.field("declaration") {
+    match node.field(Field::Declaration) {
         Some(part) => part_is_dropped(part),
         None => false,
     }
@@ -104,7 +105,7 @@ fn exports_nothing(node: &Node) -> bool
 fn is_nothing(plan: &Plan, node: &Node) -> bool
     ensures { result ≡ is_nothing (is_in plan.now.kept) (named (codes "declaration") node.now.kind (docs_in node.now.parts.items)) }
 {
-    match node.field("declaration") {
+    match node.field(Field::Declaration) {
         Some(part) => {
             part_is_dropped(part)
                 || (part.is_kind(Kind::IdentifierReference) && !is_kept(plan, part))

@@ -2,6 +2,7 @@
 
 use crate::due::is_export_due;
 use crate::removed::{is_kept, is_listing, is_removed};
+use oxt_grammar::field::Field;
 use oxt_grammar::kind::Kind;
 use oxt_grammar::word::Word;
 use oxt_options::plan::Plan;
@@ -32,7 +33,7 @@ pub fn retain_modules(
     }
     let number = program.ids.fresh()?;
     let is_due = is_export_due(&program.root, plan, only_remove_type_imports);
-    match field_mut(&mut program.root, "body") {
+    match field_mut(&mut program.root, Field::Body) {
         Some(Part::List(statements)) => {
             retain_statements(plan, only_remove_type_imports, statements);
             if is_due {
@@ -54,21 +55,21 @@ fn push_export(number: NodeId, statements: &mut Vec<Part>) -> Result<(), OutOfMe
 /// Removes all code from a program.
 fn empty(program: &mut Node) {
     let alloc = *program.parts.allocator();
-    put_field(program, "body", Part::List(Vec::new(alloc)));
-    put_field(program, "directives", Part::List(Vec::new(alloc)));
-    put_field(program, "hashbang", Part::Nothing);
+    put_field(program, Field::Body, Part::List(Vec::new(alloc)));
+    put_field(program, Field::Directives, Part::List(Vec::new(alloc)));
+    put_field(program, Field::Hashbang, Part::Nothing);
 }
 
 /// Puts the part into the field of that name, if the node has such a field.
-fn put_field(node: &mut Node, name: &str, part: Part) {
-    if let Some(field) = field_mut(node, name) {
-        *field = part;
+fn put_field(node: &mut Node, field: Field, part: Part) {
+    if let Some(place) = field_mut(node, field) {
+        *place = part;
     }
 }
 
 /// The field of that name, if the node has such a field.
-fn field_mut<'a>(node: &'a mut Node, name: &str) -> Option<&'a mut Part> {
-    match place_of(node.kind.rows(), name) {
+fn field_mut<'a>(node: &'a mut Node, field: Field) -> Option<&'a mut Part> {
+    match place_of(node.kind.rows(), field) {
         Some(place) => node.parts.get_mut(place),
         None => None,
     }
@@ -94,7 +95,7 @@ fn trim_statement(plan: &Plan, part: &mut Part) {
 /// Drops the specifiers that are not kept, and the braces of an import with the last of them.
 fn trim_list(plan: &Plan, node: &mut Node) {
     let is_import = node.kind.is(Kind::ImportDeclaration);
-    if let Some(field) = field_mut(node, "specifiers") {
+    if let Some(field) = field_mut(node, Field::Specifiers) {
         retain_kept(plan, field);
         if is_import && is_empty_list(field) {
             *field = Part::Nothing;

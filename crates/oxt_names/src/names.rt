@@ -5,8 +5,10 @@ ghost use Rattle.oxt_tree.specs.View.{docs_in, node_doc, part_doc};
 ghost use Rattle.oxt_names.specs.Made.{all_added};
 ghost use Rattle.oxt_names.specs.Names.{member_name, names, names_of_each, own_name};
 ghost use Rattle.oxt_names.specs.Tried.{IsTried, spellings};
+ghost use Rattle.oxt_grammar.specs.Keys.{key_of};
 
 use crate::table::{self, Table};
+use oxt_grammar::field::Field;
 use oxt_grammar::kind::Kind;
 use oxt_tree::ids::OutOfMemory;
 use oxt_tree::tree::{Node, Part};
@@ -78,9 +80,9 @@ fn own_name(node: &Node) -> Option<&str>
         ≡ own_name node.now.kind (docs_in node.now.parts.items) }
 {
     if node.kind.is(Kind::BindingIdentifier) || node.kind.is(Kind::IdentifierReference) {
-        text_of(node, "name")
+        node.text(Field::Name)
     } else if node.kind.is(Kind::TSEnumMember) {
-        match node.field("id") {
+        match node.field(Field::Id) {
             Some(id) => member_name(id),
             None => None,
         }
@@ -95,23 +97,15 @@ fn member_name(part: &Part) -> Option<&str>
 {
     let id = part.as_node()?;
     if id.kind.is(Kind::IdentifierName) {
-        text_of(id, "name")
+        id.text(Field::Name)
     } else if id.kind.is(Kind::StringLiteral) {
-        text_of(id, "value")
+        id.text(Field::Value)
     } else if id.kind.is(Kind::TemplateLiteral) {
-        text_of(id.list("quasis").first()?.as_node()?, "cooked")
+        id.list(Field::Quasis)
+            .first()?
+            .as_node()?
+            .text(Field::Cooked)
     } else {
         None
-    }
-}
-
-/// The text in the field of that name.
-fn text_of<'a>(node: &'a Node, name: &str) -> Option<&'a str>
-    ensures { option_map (λ text. text.now) result
-        ≡ text_in (named name.now node.now.kind (docs_in node.now.parts.items)) }
-{
-    match node.field(name) {
-        Some(part) => part.as_text(),
-        None => None,
     }
 }

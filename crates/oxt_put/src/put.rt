@@ -13,12 +13,14 @@ ghost use Rattle.oxt_facts.specs.Facts.{is_made};
 ghost use Rattle.oxt_facts.specs.Inside.{stored_at};
 ghost use Rattle.oxt_forms.specs.Forms.{within};
 ghost use Rattle.oxt_forms.specs.Made.{base_in};
+ghost use Rattle.oxt_grammar.specs.Keys.{key_of};
 
 use oxt_facts::facts::Facts;
 use oxt_facts::inside::stored_at;
 use oxt_facts::item::{Atom, Binding, Item, ItemKind};
 use oxt_forms::base::{base_in, base_key, base_name};
 use oxt_forms::forms::within;
+use oxt_grammar::field::Field;
 use oxt_grammar::holds::{Holds, Row};
 use oxt_grammar::kind::Kind;
 use oxt_tree::ids::OutOfMemory;
@@ -140,7 +142,7 @@ fn put_detail(row: &Row, part: &Part, found: &mut Vec<Atom>) -> Result<(), OutOf
 fn is_detail(row: &Row) -> bool
     ensures { result ≡ is_detail (row_view row.now) }
 {
-    is_atom(row.holds) && (!row.presence.is_typescript() && !(row.name == "shorthand"))
+    is_atom(row.holds) && (!row.presence.is_typescript() && !(row.is(Field::Shorthand)))
 }
 
 /// Whether the nodes in the field are read.
@@ -189,11 +191,11 @@ pub fn first_atom(node: &Node) -> Result<Atom, OutOfMemory>
 }
 
 /// What the field of that name holds.
-pub fn field_atom(node: &Node, name: &str) -> Result<Atom, OutOfMemory>
+pub fn field_atom(node: &Node, field: Field) -> Result<Atom, OutOfMemory>
     ensures { IfOk result (λ atom. atom_doc atom
-        ≡ detail (named name.now node.now.kind (docs_in node.now.parts.items))) }
+        ≡ detail (named (key_of field) node.now.kind (docs_in node.now.parts.items))) }
 {
-    match node.field(name) {
+    match node.field(field) {
         Some(part) => atom_of(part),
         None => Ok(Atom::Nothing),
     }
@@ -312,8 +314,8 @@ pub fn target_atom(node: &Node) -> Result<Atom, OutOfMemory>
     ensures { IfOk result (λ atom. atom_doc atom ≡ detail (field_of (codes "name")
         (within (codes "left") node.now.kind (docs_in node.now.parts.items)))) }
 {
-    match within(node, "left") {
-        Some(Part::Node(name)) => field_atom(name, "name"),
+    match within(node, Field::Left) {
+        Some(Part::Node(name)) => field_atom(name, Field::Name),
         _ => Ok(Atom::Nothing),
     }
 }
@@ -402,8 +404,12 @@ pub fn put_number(alloc: Global, node: &Node, out: &mut Vec<Item>) -> Result<(),
     ensures { OnOk result (entries out.new.items
         ≡ entries out.old.items ++ number_word node.now.kind (docs_in node.now.parts.items)) }
 {
-    let name = if node.lacks("value") { "raw" } else { "value" };
-    put_spelled(alloc, ItemKind::Num, field_atom(node, name)?, out)
+    let field = if node.lacks(Field::Value) {
+        Field::Raw
+    } else {
+        Field::Value
+    };
+    put_spelled(alloc, ItemKind::Num, field_atom(node, field)?, out)
 }
 
 /// Puts the first line for the system, where there is one.
@@ -412,8 +418,13 @@ pub fn put_hash(alloc: Global, node: &Node, out: &mut Vec<Item>) -> Result<(), O
         ≡ entries out.old.items
         ++ hash_word (named (codes "hashbang") node.now.kind (docs_in node.now.parts.items))) }
 {
-    if node.lacks("hashbang") {
+    if node.lacks(Field::Hashbang) {
         return Ok(());
     }
-    put_spelled(alloc, ItemKind::Hash, field_atom(node, "hashbang")?, out)
+    put_spelled(
+        alloc,
+        ItemKind::Hash,
+        field_atom(node, Field::Hashbang)?,
+        out,
+    )
 }

@@ -9,9 +9,10 @@ ghost use Rattle.oxt_resolve.specs.Marks.{accessor_flags, accessor_mark, each_ma
 
 use crate::flags::{both, no_flags};
 use indexmap::IndexMap;
-use oxt_declares::names::{field_of, field_within};
+use oxt_declares::names::field_within;
 use oxt_declares::role::Role;
 use oxt_declares::role_of::role_of;
+use oxt_grammar::field::Field;
 use oxt_grammar::kind::Kind;
 use oxt_names::flags::ScopeFlags;
 use oxt_tree::ids::{NodeId, OutOfMemory};
@@ -176,14 +177,14 @@ fn says_strict(role: Role, node: &Node) -> bool
 fn is_strict_program(node: &Node) -> bool
     ensures { result ≡ says_strict Role.Program node.now.kind (docs_in node.now.parts.items) }
 {
-    node.holds_text("sourceType", "module") || has_use_strict(node.field("directives"))
+    node.holds_text(Field::SourceType, "module") || has_use_strict(node.field(Field::Directives))
 }
 
 /// Whether its body says `use strict`.
 fn is_strict_within(node: &Node) -> bool
     ensures { result ≡ has_use_strict (field_of (codes "directives") (named (codes "body") node.now.kind (docs_in node.now.parts.items))) }
 {
-    has_use_strict(field_within(node, "body", "directives"))
+    has_use_strict(field_within(node, Field::Body, Field::Directives))
 }
 
 /// Whether `use strict` stands among the directives.
@@ -214,7 +215,7 @@ fn is_any_use_strict(directives: &[Part]) -> bool
 fn is_use_strict(directive: &Part) -> bool
     ensures { result ≡ is_use_strict (part_doc directive.now) }
 {
-    match field_of(directive, "value") {
+    match directive.field(Field::Value) {
         Some(value) => value.is_text("use strict"),
         None => false,
     }
@@ -236,7 +237,7 @@ fn push_accessor(node: &Node, out: &mut Vec<Mark>) -> Result<(), OutOfMemory>
         ≡ mark_views out.old.items ++ accessor_mark node.now.kind (docs_in node.now.parts.items)) }
 {
     match accessor_flags(node) {
-        Some(flags) => push_flags(node.field("value"), flags, out),
+        Some(flags) => push_flags(node.field(Field::Value), flags, out),
         None => Ok(()),
     }
 }
@@ -245,11 +246,11 @@ fn push_accessor(node: &Node, out: &mut Vec<Mark>) -> Result<(), OutOfMemory>
 fn accessor_flags(node: &Node) -> Option<ScopeFlags>
     ensures { result ≡ accessor_flags (named (codes "kind") node.now.kind (docs_in node.now.parts.items)) }
 {
-    if node.holds_text("kind", "constructor") {
+    if node.holds_text(Field::Kind, "constructor") {
         Some(ScopeFlags::Constructor)
-    } else if node.holds_text("kind", "get") {
+    } else if node.holds_text(Field::Kind, "get") {
         Some(ScopeFlags::GetAccessor)
-    } else if node.holds_text("kind", "set") {
+    } else if node.holds_text(Field::Kind, "set") {
         Some(ScopeFlags::SetAccessor)
     } else {
         None

@@ -1,5 +1,6 @@
 -- Owners of names, a part at a time.
 use Rattle.std.proofs.Common.{◌≡◌, ◌∙◌, refl, sym, ap, ℕ, ◌+◌, ◌<◌, ◌≤◌, List, [], ◌∷◌, ◌++◌, map, length, drop, get_or, append_assoc, append-nil}
+use Rattle.oxt_grammar.specs.Keys.{key_of}
 use Rattle.oxt_grammar.specs.Field.{row_view}
 use Rattle.oxt_grammar.specs.Rows.{row_of}
 use Rattle.oxt_grammar.specs.declared.holds.Row.{Row}
@@ -35,13 +36,13 @@ fields_short before ps rs r ls i h =
     ap (λ qs. before ++ field_owners (docs_in (drop i ps)) (map row_view qs) r ls) (drop_end rs i h) ∙ ap (λ os. before ++ os) (no_fields (drop i ps) r ls) ∙ append-nil before
 
 pub fields_next : (before after : List Owned) (ps : List Part) (rs : List Row) (r : Reading) (now ls : List Level) (i : ℕ) (p : Part) (f : Row) → i < length ps → p ≡ get_or ps i p → i < length rs → f ≡ get_or rs i f → now ≡ ls
-    → after ≡ before ++ read_so (way_of r f.name.now) (owners (part_doc p)) now
+    → after ≡ before ++ read_so (way_of r (key_of f.field)) (owners (part_doc p)) now
     → before ++ field_owners (docs_in (drop i ps)) (map row_view (drop i rs)) r ls ≡ after ++ field_owners (docs_in (drop (i + 1) ps)) (map row_view (drop (i + 1) rs)) r ls
 fields_next before after ps rs r now ls i p f h e k g same pushed =
     ap (λ qs. before ++ field_owners (docs_in qs) (map row_view (drop i rs)) r ls) (drop_at ps i p h e)
     ∙ ap (λ qs. before ++ field_owners (docs_in (p ∷ drop (i + 1) ps)) (map row_view qs) r ls) (drop_at rs i f k g)
-    ∙ sym (append_assoc before (read_so (way_of r f.name.now) (owners (part_doc p)) ls) (field_owners (docs_in (drop (i + 1) ps)) (map row_view (drop (i + 1) rs)) r ls))
-    ∙ ap (λ os. os ++ field_owners (docs_in (drop (i + 1) ps)) (map row_view (drop (i + 1) rs)) r ls) (ap (λ ks. before ++ read_so (way_of r f.name.now) (owners (part_doc p)) ks) (sym same) ∙ sym pushed)
+    ∙ sym (append_assoc before (read_so (way_of r (key_of f.field)) (owners (part_doc p)) ls) (field_owners (docs_in (drop (i + 1) ps)) (map row_view (drop (i + 1) rs)) r ls))
+    ∙ ap (λ os. os ++ field_owners (docs_in (drop (i + 1) ps)) (map row_view (drop (i + 1) rs)) r ls) (ap (λ ks. before ++ read_so (way_of r (key_of f.field)) (owners (part_doc p)) ks) (sym same) ∙ sym pushed)
 
 pub ruleset each_steps = (each_next, each_end)
 

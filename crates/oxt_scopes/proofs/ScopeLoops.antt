@@ -1,5 +1,6 @@
 -- Scopes, a part at a time.
 use Rattle.std.proofs.Common.{◌≡◌, ◌∙◌, refl, sym, ap, ℕ, ◌+◌, ◌<◌, ◌≤◌, List, [], ◌∷◌, ◌++◌, map, length, drop, get_or, append_assoc, append-nil}
+use Rattle.oxt_grammar.specs.Keys.{key_of}
 use Rattle.oxt_grammar.specs.Field.{row_view}
 use Rattle.oxt_grammar.specs.Rows.{row_of}
 use Rattle.oxt_grammar.specs.declared.holds.Row.{Row}
@@ -35,13 +36,13 @@ fields_short before ps rs r st ls i h =
     ap (λ qs. before ++ field_scopes (docs_in (drop i ps)) (map row_view qs) r st ls) (drop_end rs i h) ∙ ap (λ os. before ++ os) (no_fields (drop i ps) r st ls) ∙ append-nil before
 
 pub fields_next : (before after : List Opened) (ps : List Part) (rs : List Row) (r : Reading) (st : Standing) (now ls : List ℕ) (i : ℕ) (p : Part) (f : Row) → i < length ps → p ≡ get_or ps i p → i < length rs → f ≡ get_or rs i f → now ≡ ls
-    → after ≡ before ++ read_scopes (way_of r f.name.now) (scopes (part_doc p)) st now
+    → after ≡ before ++ read_scopes (way_of r (key_of f.field)) (scopes (part_doc p)) st now
     → before ++ field_scopes (docs_in (drop i ps)) (map row_view (drop i rs)) r st ls ≡ after ++ field_scopes (docs_in (drop (i + 1) ps)) (map row_view (drop (i + 1) rs)) r st ls
 fields_next before after ps rs r st now ls i p f h e k g same pushed =
     ap (λ qs. before ++ field_scopes (docs_in qs) (map row_view (drop i rs)) r st ls) (drop_at ps i p h e)
     ∙ ap (λ qs. before ++ field_scopes (docs_in (p ∷ drop (i + 1) ps)) (map row_view qs) r st ls) (drop_at rs i f k g)
-    ∙ sym (append_assoc before (read_scopes (way_of r f.name.now) (scopes (part_doc p)) st ls) (field_scopes (docs_in (drop (i + 1) ps)) (map row_view (drop (i + 1) rs)) r st ls))
-    ∙ ap (λ os. os ++ field_scopes (docs_in (drop (i + 1) ps)) (map row_view (drop (i + 1) rs)) r st ls) (ap (λ ks. before ++ read_scopes (way_of r f.name.now) (scopes (part_doc p)) st ks) (sym same) ∙ sym pushed)
+    ∙ sym (append_assoc before (read_scopes (way_of r (key_of f.field)) (scopes (part_doc p)) st ls) (field_scopes (docs_in (drop (i + 1) ps)) (map row_view (drop (i + 1) rs)) r st ls))
+    ∙ ap (λ os. os ++ field_scopes (docs_in (drop (i + 1) ps)) (map row_view (drop (i + 1) rs)) r st ls) (ap (λ ks. before ++ read_scopes (way_of r (key_of f.field)) (scopes (part_doc p)) st ks) (sym same) ∙ sym pushed)
 
 pub ruleset each_steps = (each_next, each_end)
 

@@ -17,6 +17,7 @@ use crate::way::{Pass, Reading, Step, Way, step_of};
 use oxt_declares::declares::text_of;
 use oxt_declares::role::Role;
 use oxt_declares::role_of::role_of;
+use oxt_grammar::field::Field;
 use oxt_grammar::holds::Row;
 use oxt_tree::ids::{NodeId, OutOfMemory};
 use oxt_tree::tree::{Node, Part};
@@ -91,7 +92,7 @@ fn is_marked(role: Role, node: &Node) -> bool
         Role::ExportList => node.is_type_only(),
         Role::Specifier => node.is_type_only(),
         Role::ImportEquals => node.is_type_only(),
-        Role::Assignment => node.holds_text("operator", "="),
+        Role::Assignment => node.holds_text(Field::Operator, "="),
         _ => false,
     }
 }
@@ -188,7 +189,7 @@ fn push_fields<'a>(
 {
     for (i, part) in parts.iter().enumerate() {
         match rows.get(i) {
-            Some(row) => push_read(alloc, part, reading.way_of(row.name), scopes, out)?,
+            Some(row) => push_read(alloc, part, reading.way_of(row), scopes, out)?,
             None => return Ok(()),
         }
     }

@@ -15,6 +15,7 @@ use oxt_declares::declaration::{Declaration, Sight, Sort};
 use oxt_declares::declares::{push_body_members, push_declared, text_of};
 use oxt_declares::names::field_within;
 use oxt_declares::role::Role;
+use oxt_grammar::field::Field;
 use oxt_tree::ids::{NodeId, OutOfMemory};
 use oxt_tree::tree::{Node, Part};
 use std::alloc::Global;
@@ -62,7 +63,7 @@ pub fn scope_number(role: Role, node: &Node) -> NodeId
     ensures { result.0 ≡ scope_number role node.now.kind node.now.id.0 (docs_in node.now.parts.items) }
 {
     match role {
-        Role::Enum => number_of(node.field("body")),
+        Role::Enum => number_of(node.field(Field::Body)),
         _ => node.id,
     }
 }
@@ -82,7 +83,7 @@ fn enum_of<'a>(role: Role, node: &'a Node) -> Option<&'a str>
     ensures { name_in result ≡ enum_of role node.now.kind (docs_in node.now.parts.items) }
 {
     match role {
-        Role::Enum => text_of(field_within(node, "id", "name")),
+        Role::Enum => text_of(field_within(node, Field::Id, Field::Name)),
         _ => None,
     }
 }

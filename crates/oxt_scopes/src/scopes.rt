@@ -196,7 +196,7 @@ fn push_fields<'a>(
     for (i, part) in parts.iter().enumerate() {
         match rows.get(i) {
             Some(row) => {
-                let way = reading.way_of(row.name);
+                let way = reading.way_of(row);
                 push_read(alloc, part, way, standing, around, out)?
             }
             None => return Ok(()),

@@ -11,6 +11,7 @@ ghost use Rattle.oxt_scopes.specs.Standings.{declares_alone, is_erased_alone, is
 use oxt_declares::role::Role;
 use oxt_declares::role_of::role_of;
 use oxt_declares::types_alone::is_of_types;
+use oxt_grammar::field::Field;
 use oxt_grammar::kind::Kind;
 use oxt_tree::tree::Node;
 
@@ -66,7 +67,7 @@ fn declares_alone(node: &Node) -> bool
     ensures { result ≡ declares_alone node.now.kind (docs_in node.now.parts.items) }
 {
     !node.kind.is(Kind::FunctionExpression)
-        && (!node.kind.is(Kind::ClassExpression) && node.flag("declare"))
+        && (!node.kind.is(Kind::ClassExpression) && node.flag(Field::Declare))
 }
 
 /// Whether it is erased whatever stands around it.
@@ -75,7 +76,7 @@ fn is_erased_alone(node: &Node) -> bool
 {
     is_erased_kind(node.kind)
         || (node.is_type_only()
-            || (node.holds_kind("value", Kind::TSEmptyBodyFunctionExpression)
+            || (node.holds_kind(Field::Value, Kind::TSEmptyBodyFunctionExpression)
                 || is_erased_by(role_of(node.kind), node)))
 }
 
@@ -84,11 +85,11 @@ fn is_erased_by(role: Role, node: &Node) -> bool
     ensures { result ≡ is_erased_by role node.now.kind (docs_in node.now.parts.items) }
 {
     match role {
-        Role::Namespace => match node.field("body") {
+        Role::Namespace => match node.field(Field::Body) {
             Some(body) => is_of_types(body),
             None => false,
         },
-        Role::Program => node.holds_text("lang", "dts"),
+        Role::Program => node.holds_text(Field::Lang, "dts"),
         _ => false,
     }
 }

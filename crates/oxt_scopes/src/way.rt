@@ -1,8 +1,11 @@
 //! How names are read, and where.
 ghost use Rattle.std.specs.Prelude.{◌≡◌};
 ghost use Rattle.oxt_scopes.specs.Ways.{around_way, assigned, assignment_way, each_way, element_way, function_way, here_way, in_method, is_typed, method_step, method_way, named_way, only, other_step, own_decorators, parameter_way, specifier_way, step_of, update_way, value_step, value_way, way_of, within_way};
+ghost use Rattle.oxt_grammar.specs.Keys.{key_of};
 
 use oxt_declares::role::Role;
+use oxt_grammar::field::Field;
+use oxt_grammar::holds::Row;
 
 /// How the names in a node are read.
 #[derive(Clone, Copy)]
@@ -120,34 +123,34 @@ impl Reading {
         Reading { pass, ..self }
     }
 
-    /// How the field of that name is read; none where it is not.
-    pub fn way_of(self, name: &str) -> Option<Way>
-        ensures { result ≡ way_of self name.now }
+    /// How the field of that row is read; none where it is not.
+    pub fn way_of(self, row: &Row) -> Option<Way>
+        ensures { result ≡ way_of self (key_of row.now.field) }
     {
         match self.pass {
-            Pass::Here => self.here(name),
-            Pass::Around => self.around(name),
-            Pass::Within => self.within(name),
-            Pass::Beyond => only(name == "decorators"),
+            Pass::Here => self.here(row),
+            Pass::Around => self.around(row),
+            Pass::Within => self.within(row),
+            Pass::Beyond => only(row.is(Field::Decorators)),
         }
     }
 
-    fn here(self, name: &str) -> Option<Way>
-        ensures { result ≡ here_way self name.now }
+    fn here(self, row: &Row) -> Option<Way>
+        ensures { result ≡ here_way self (key_of row.now.field) }
     {
         match self.role {
-            Role::Specifier => self.specifier(name),
+            Role::Specifier => self.specifier(row),
             _ => {
                 if self.way.is_typed() {
                     return Some(self.way);
                 }
-                self.value(name)
+                self.value(row)
             }
         }
     }
 
-    fn value(self, name: &str) -> Option<Way>
-        ensures { result ≡ value_way self.role self name.now }
+    fn value(self, row: &Row) -> Option<Way>
+        ensures { result ≡ value_way self.role self (key_of row.now.field) }
     {
         match self.role {
             Role::Import => None,
@@ -155,48 +158,48 @@ impl Reading {
             Role::Type => Some(Way::Typed),
             Role::ExportList => Some(named_way(self.is_marked, Way::Whole)),
             Role::ImportEquals => Some(named_way(self.is_marked, Way::Whole)),
-            Role::Assignment => Some(assignment_way(self.is_marked, name)),
-            Role::Update => Some(update_way(name)),
+            Role::Assignment => Some(assignment_way(self.is_marked, row)),
+            Role::Update => Some(update_way(row)),
             Role::Target => Some(self.way),
-            Role::TargetElement => Some(element_way(self.way, name)),
-            Role::Method => Some(method_way(name)),
-            Role::Parameter => parameter_way(self.way, name),
+            Role::TargetElement => Some(element_way(self.way, row)),
+            Role::Method => Some(method_way(row)),
+            Role::Parameter => parameter_way(self.way, row),
             _ => Some(in_method(self.way)),
         }
     }
 
-    fn specifier(self, name: &str) -> Option<Way>
-        ensures { result ≡ specifier_way self name.now }
+    fn specifier(self, row: &Row) -> Option<Way>
+        ensures { result ≡ specifier_way self (key_of row.now.field) }
     {
-        if name == "local" {
+        if row.is(Field::Local) {
             return Some(named_way(self.is_marked, self.way));
         }
         None
     }
 
-    fn around(self, name: &str) -> Option<Way>
-        ensures { result ≡ around_way self.role name.now }
+    fn around(self, row: &Row) -> Option<Way>
+        ensures { result ≡ around_way self.role (key_of row.now.field) }
     {
         match self.role {
-            Role::Class => only(name == "decorators"),
-            Role::ClassExpression => only(name == "decorators"),
-            Role::Switch => only(name == "discriminant"),
+            Role::Class => only(row.is(Field::Decorators)),
+            Role::ClassExpression => only(row.is(Field::Decorators)),
+            Role::Switch => only(row.is(Field::Discriminant)),
             _ => None,
         }
     }
 
-    fn within(self, name: &str) -> Option<Way>
-        ensures { result ≡ within_way self.role self.way name.now }
+    fn within(self, row: &Row) -> Option<Way>
+        ensures { result ≡ within_way self.role self.way (key_of row.now.field) }
     {
         match self.role {
-            Role::Class => only(!(name == "decorators")),
-            Role::ClassExpression => only(!(name == "decorators")),
-            Role::Switch => only(!(name == "discriminant")),
-            Role::ForEach => Some(each_way(name)),
-            Role::Function => Some(function_way(self.way, name)),
-            Role::Overload => Some(function_way(self.way, name)),
-            Role::FunctionExpression => Some(function_way(self.way, name)),
-            Role::Arrow => Some(function_way(self.way, name)),
+            Role::Class => only(!(row.is(Field::Decorators))),
+            Role::ClassExpression => only(!(row.is(Field::Decorators))),
+            Role::Switch => only(!(row.is(Field::Discriminant))),
+            Role::ForEach => Some(each_way(row)),
+            Role::Function => Some(function_way(self.way, row)),
+            Role::Overload => Some(function_way(self.way, row)),
+            Role::FunctionExpression => Some(function_way(self.way, row)),
+            Role::Arrow => Some(function_way(self.way, row)),
             _ => Some(Way::Whole),
         }
     }
@@ -221,23 +224,23 @@ fn only(is_read: bool) -> Option<Way>
     if is_read { Some(Way::Whole) } else { None }
 }
 
-fn method_way(name: &str) -> Way
-    ensures { result ≡ method_way name.now }
+fn method_way(row: &Row) -> Way
+    ensures { result ≡ method_way (key_of row.now.field) }
 {
-    if name == "value" {
+    if row.is(Field::Value) {
         Way::Method
     } else {
         Way::Whole
     }
 }
 
-fn parameter_way(way: Way, name: &str) -> Option<Way>
-    ensures { result ≡ parameter_way way name.now }
+fn parameter_way(way: Way, row: &Row) -> Option<Way>
+    ensures { result ≡ parameter_way way (key_of row.now.field) }
 {
-    if name == "decorators" {
+    if row.is(Field::Decorators) {
         return own_decorators(way);
     }
-    if name == "typeAnnotation" {
+    if row.is(Field::TypeAnnotation) {
         return Some(Way::Signature);
     }
     Some(Way::Whole)
@@ -252,16 +255,16 @@ fn own_decorators(way: Way) -> Option<Way>
     }
 }
 
-fn function_way(way: Way, name: &str) -> Way
-    ensures { result ≡ function_way way name.now }
+fn function_way(way: Way, row: &Row) -> Way
+    ensures { result ≡ function_way way (key_of row.now.field) }
 {
-    if name == "params" {
+    if row.is(Field::Params) {
         return in_method(way);
     }
-    if name == "thisParam" {
+    if row.is(Field::ThisParam) {
         return Way::Signature;
     }
-    if name == "returnType" {
+    if row.is(Field::ReturnType) {
         return Way::Signature;
     }
     Way::Whole
@@ -277,10 +280,10 @@ fn in_method(way: Way) -> Way
     }
 }
 
-fn each_way(name: &str) -> Way
-    ensures { result ≡ each_way name.now }
+fn each_way(row: &Row) -> Way
+    ensures { result ≡ each_way (key_of row.now.field) }
 {
-    if name == "left" {
+    if row.is(Field::Left) {
         Way::Written
     } else {
         Way::Whole
@@ -299,28 +302,32 @@ fn assigned(is_plain: bool) -> Way
     if is_plain { Way::Written } else { Way::Updated }
 }
 
-fn assignment_way(is_plain: bool, name: &str) -> Way
-    ensures { result ≡ assignment_way is_plain name.now }
+fn assignment_way(is_plain: bool, row: &Row) -> Way
+    ensures { result ≡ assignment_way is_plain (key_of row.now.field) }
 {
-    if name == "left" {
+    if row.is(Field::Left) {
         assigned(is_plain)
     } else {
         Way::Whole
     }
 }
 
-fn update_way(name: &str) -> Way
-    ensures { result ≡ update_way name.now }
+fn update_way(row: &Row) -> Way
+    ensures { result ≡ update_way (key_of row.now.field) }
 {
-    if name == "argument" {
+    if row.is(Field::Argument) {
         Way::Updated
     } else {
         Way::Whole
     }
 }
 
-fn element_way(way: Way, name: &str) -> Way
-    ensures { result ≡ element_way way name.now }
+fn element_way(way: Way, row: &Row) -> Way
+    ensures { result ≡ element_way way (key_of row.now.field) }
 {
-    if name == "binding" { way } else { Way::Whole }
+    if row.is(Field::Binding) {
+        way
+    } else {
+        Way::Whole
+    }
 }

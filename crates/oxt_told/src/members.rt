@@ -12,6 +12,7 @@ ghost use Rattle.oxt_tree.specs.View.{docs_in, doc_or_nil, part_doc};
 
 use crate::syntax::has_text_form;
 use oxt_facts::told::{MemberValue, Told, ToldMember, ToldNodes};
+use oxt_grammar::field::Field;
 use oxt_names::constant::ConstantValue;
 use oxt_names::ids::{ReferenceId, SymbolId};
 use oxt_scoping::scoping::Scoping;
@@ -104,7 +105,7 @@ fn tell_symbol(
 {
     let name = scoping.symbol_name(symbol);
     let constant = scoping.get_enum_member_value(symbol);
-    let initializer = node.field("initializer");
+    let initializer = node.field(Field::Initializer);
     let is_reversed = is_reversed(constant, initializer);
     let value = value_of(constant, previous, initializer)?;
     tell_value(node.id, around, name, value, is_reversed, told)?;

@@ -8,6 +8,7 @@ ghost use Rattle.oxt_tree.specs.Fields.{elements, named};
 ghost use Rattle.oxt_tree.specs.View.{docs_in, node_doc, part_doc};
 
 use oxt_facts::told::{Told, ToldNodes};
+use oxt_grammar::field::Field;
 use oxt_modules::removed::{is_listing, loses_all, node_is_removed};
 use oxt_options::plan::Plan;
 use oxt_tree::ids::{NodeId, OutOfMemory};
@@ -25,7 +26,7 @@ pub fn tell_modules(
     ensures { OnOk result (told.new
         ≡ all_told told.old (modules_told (is_in plan.now.kept) all (node_doc program.now))) }
 {
-    tell_statements(plan, all, program.list("body"), told)
+    tell_statements(plan, all, program.list(Field::Body), told)
 }
 
 /// Tells of the statements.
@@ -69,7 +70,7 @@ fn tell_node(plan: &Plan, all: bool, node: &Node, told: &mut ToldNodes) -> Resul
     if node_is_removed(plan, all, node) {
         told.tell(node.id, Told::Gone)
     } else if is_listing(node.kind) {
-        tell_list(plan, node.id, node.list("specifiers"), told)
+        tell_list(plan, node.id, node.list(Field::Specifiers), told)
     } else {
         Ok(())
     }

@@ -5,6 +5,7 @@ ghost use Rattle.oxt_told.specs.Syntax.{is_calling, is_joining, is_pure, is_text
 ghost use Rattle.oxt_tree.specs.Fields.{is_kind, named};
 ghost use Rattle.oxt_tree.specs.View.{docs_in, doc_or_nil, part_doc};
 
+use oxt_grammar::field::Field;
 use oxt_grammar::kind::Kind;
 use oxt_tree::tree::{Node, Part};
 
@@ -39,8 +40,8 @@ fn is_called(node: &Node) -> bool
         ≡ (is_kind Kind.CallExpression (named (codes "initializer") node.now.kind (docs_in node.now.parts.items))
         || is_kind Kind.NewExpression (named (codes "initializer") node.now.kind (docs_in node.now.parts.items))) }
 {
-    node.holds_kind("initializer", Kind::CallExpression)
-        || node.holds_kind("initializer", Kind::NewExpression)
+    node.holds_kind(Field::Initializer, Kind::CallExpression)
+        || node.holds_kind(Field::Initializer, Kind::NewExpression)
 }
 
 /// Whether it is a text by its form.
@@ -92,5 +93,5 @@ fn is_joining(node: &Node) -> bool
     ensures { result ≡ is_joining node.now.kind (docs_in node.now.parts.items) }
 {
     node.kind.is(Kind::ParenthesizedExpression)
-        || (node.kind.is(Kind::BinaryExpression) && node.holds_text("operator", "+"))
+        || (node.kind.is(Kind::BinaryExpression) && node.holds_text(Field::Operator, "+"))
 }

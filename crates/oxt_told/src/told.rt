@@ -14,6 +14,7 @@ use crate::members::{EnumAround, tell_members, tell_members_bares};
 use crate::modules::tell_modules;
 use crate::syntax::is_pure;
 use oxt_facts::told::{Told, ToldBlock, ToldNodes};
+use oxt_grammar::field::Field;
 use oxt_grammar::kind::Kind;
 use oxt_names::ids::SymbolId;
 use oxt_options::plan::Plan;
@@ -256,7 +257,7 @@ fn enum_symbol(scoping: &Scoping, node: &Node) -> Option<SymbolId>
     ensures symbol { symbol_by scoping.now.symbols result
         ≡ enum_symbol scoping.now node.now.kind (docs_in node.now.parts.items) }
 {
-    match node.field("id") {
+    match node.field(Field::Id) {
         Some(Part::Node(id)) => scoping.symbol_of(id.id),
         _ => None,
     }
@@ -297,8 +298,8 @@ fn first_node(declarations: &[Redeclaration]) -> Option<u64>
 fn members_of(node: &Node) -> &[Part]
     ensures { docs_in result.now ≡ members_in node.now.kind (docs_in node.now.parts.items) }
 {
-    match node.field("body") {
-        Some(Part::Node(body)) => body.list("members"),
+    match node.field(Field::Body) {
+        Some(Part::Node(body)) => body.list(Field::Members),
         _ => &[],
     }
 }

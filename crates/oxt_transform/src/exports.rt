@@ -5,6 +5,7 @@ ghost use Rattle.oxt_tree.specs.Doc.{list};
 ghost use Rattle.oxt_tree.specs.Fields.{is_empty_list};
 ghost use Rattle.oxt_tree.specs.View.{docs_in, part_doc};
 
+use oxt_grammar::field::Field;
 use oxt_grammar::kind::Kind;
 use oxt_tree::ids::{OutOfMemory, Span};
 use oxt_tree::tree::{Node, Part};
@@ -75,7 +76,7 @@ fn is_empty_export(node: &Node) -> bool
     ensures { result ≡ is_empty_export_by node.now.kind (docs_in node.now.parts.items) }
 {
     node.kind.is(Kind::ExportNamedDeclaration)
-        && (node.holds_text("exportKind", "value") && is_empty(node.list("specifiers")))
+        && (node.holds_text(Field::ExportKind, "value") && is_empty(node.list(Field::Specifiers)))
 }
 
 /// Whether there are none.

@@ -6,7 +6,9 @@ ghost use Rattle.oxt_transform.specs.Places.{with_field};
 ghost use Rattle.oxt_transform.specs.Plain.{as_javascript, has_empty_import, is_common_js, is_empty_import, is_left_alone, is_plain_source, leaves_javascript};
 ghost use Rattle.oxt_tree.specs.Fields.{is_empty_list};
 ghost use Rattle.oxt_tree.specs.View.{doc_or_nil, node_doc, part_doc};
+ghost use Rattle.oxt_grammar.specs.Keys.{key_of};
 
+use oxt_grammar::field::Field;
 use oxt_grammar::kind::Kind;
 use oxt_grammar::word::Word;
 use oxt_options::{Module, TransformOptions};
@@ -56,7 +58,7 @@ fn is_plain_source(program: &Node) -> bool
 fn has_empty_import(program: &Node) -> bool
     ensures { result ≡ has_empty_import (node_doc program.now) }
 {
-    any_empty_import(program.list("body"))
+    any_empty_import(program.list(Field::Body))
 }
 
 /// Whether one of the statements is such an import.
@@ -80,7 +82,7 @@ fn part_is_empty_import(part: &Part) -> bool
 fn is_empty_import(node: &Node) -> bool
     ensures { result ≡ is_empty_import (node_doc node.now) }
 {
-    node.kind.is(Kind::ImportDeclaration) && holds_empty_list(node.field("specifiers"))
+    node.kind.is(Kind::ImportDeclaration) && holds_empty_list(node.field(Field::Specifiers))
 }
 
 /// Whether there is an empty list.
@@ -107,14 +109,14 @@ fn is_empty_list(part: &Part) -> bool
 pub(crate) fn say_javascript(program: &mut Node)
     ensures { node_doc program.new ≡ as_javascript (node_doc program.old) }
 {
-    put_field(program, "lang", Part::Word(Word::Js));
+    put_field(program, Field::Lang, Part::Word(Word::Js));
 }
 
 /// Puts the part into the field of that name, if the node has such a field.
-fn put_field(node: &mut Node, name: &str, part: Part)
-    ensures { node_doc node.new ≡ with_field name.now (part_doc part) (node_doc node.old) }
+fn put_field(node: &mut Node, field: Field, part: Part)
+    ensures { node_doc node.new ≡ with_field (key_of field) (part_doc part) (node_doc node.old) }
 {
-    if let Some(place) = place_of(node.kind.rows(), name) {
+    if let Some(place) = place_of(node.kind.rows(), field) {
         if place < node.parts.len() {
             node.parts[place] = part;
         }

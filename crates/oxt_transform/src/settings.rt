@@ -7,6 +7,7 @@ ghost use Rattle.oxt_tree.specs.Names.{name_bytes};
 ghost use Rattle.oxt_tree.specs.View.{docs_in, node_doc};
 
 use crate::exports::{empty_exports, ends_in_export, same_spans};
+use oxt_grammar::field::Field;
 use oxt_modules::due::is_export_due;
 use oxt_options::plan::Plan;
 use oxt_tree::ids::{OutOfMemory, Span};
@@ -60,7 +61,7 @@ fn exports_left(alloc: Global, source: &Node, due: bool) -> Result<Vec<Span>, Ou
     if source.is_definition_file() {
         return Ok(Vec::new(alloc));
     }
-    let mut exports = empty_exports(alloc, source.list("body"))?;
+    let mut exports = empty_exports(alloc, source.list(Field::Body))?;
     if due {
         exports.push(Span::NONE)?;
     }
@@ -80,7 +81,7 @@ pub(crate) fn wrong_setting(
         Ok(Some(Name::new(alloc, "/sourceType")?))
     } else if !has_language(settings.definitions, output) {
         Ok(Some(Name::new(alloc, "/lang")?))
-    } else if has_exports(alloc, settings, output.list("body"))? {
+    } else if has_exports(alloc, settings, output.list(Field::Body))? {
         Ok(None)
     } else {
         Ok(Some(Name::new(alloc, "/body")?))
@@ -113,14 +114,14 @@ fn has_exports(alloc: Global, settings: &Settings, statements: &[Part]) -> Resul
 fn is_script(program: &Node) -> bool
     ensures { result ≡ is_script (node_doc program.now) }
 {
-    program.holds_text("sourceType", "script")
+    program.holds_text(Field::SourceType, "script")
 }
 
 /// Whether the program is one of JavaScript.
 fn is_javascript(program: &Node) -> bool
     ensures { result ≡ is_javascript (node_doc program.now) }
 {
-    program.holds_text("lang", "js")
+    program.holds_text(Field::Lang, "js")
 }
 
 /// Whether just one of both holds.

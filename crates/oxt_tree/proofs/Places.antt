@@ -2,6 +2,7 @@
 use Rattle.std.proofs.Common.{ℕ, suc, ◌+◌, ◌≡◌, refl, sym, ◌∙◌, ap, List, [], ◌∷◌, map, Bool, true, false, Option, None, Some, option_map, cond, add-one}
 use Rattle.std.specs.List.{position_from, slice_get}
 use Rattle.std.specs.Str.{bytes_eq}
+use Rattle.oxt_grammar.specs.Keys.{key_of}
 use Rattle.oxt_grammar.specs.Field.{Field, row_view}
 use Rattle.oxt_grammar.specs.Rows.{row_of}
 use Rattle.oxt_grammar.specs.declared.holds.Row.{Row}
@@ -48,7 +49,7 @@ at_name_position name (r ∷ rs) (p ∷ ps) = step (bytes_eq r.name name) (at_na
     step false e = e
 
 -- The same, by the rows that the program has of a kind.
-pub named_at : (name : List ℕ) (k : Kind) (rs : List Row) (ps : List Part) (o : Option ℕ) → map row_view rs ≡ row_of k → o ≡ position_from (λ r. bytes_eq r.name.now name) 0 rs → doc_at ps o ≡ named name k (docs_in ps)
+pub named_at : (name : List ℕ) (k : Kind) (rs : List Row) (ps : List Part) (o : Option ℕ) → map row_view rs ≡ row_of k → o ≡ position_from (λ r. bytes_eq (key_of r.field) name) 0 rs → doc_at ps o ≡ named name k (docs_in ps)
 named_at name k rs ps o rows place =
     ap (doc_at ps) (place ∙ sym (position_from_map (λ r. bytes_eq r.name name) row_view 0 rs))
     ∙ sym (at_name_position name (map row_view rs) ps)

@@ -2,6 +2,7 @@
 use Rattle.std.proofs.Common.{ℕ, zero, suc, ◌+◌, ◌<◌, ◌≤◌, ◌≡◌, refl, ap, ◌∙◌, arith, List, [], ◌∷◌, length, map, min, drop, get_or, None, option_map}
 use Rattle.std.specs.Fmt.{decimal}
 use Rattle.std.specs.Option.{option_or}
+use Rattle.oxt_grammar.specs.Keys.{key_of}
 use Rattle.oxt_tree.specs.Place.{place_among, place_below, place_in}
 use Rattle.oxt_grammar.specs.Field.{row_view}
 use Rattle.oxt_grammar.specs.declared.holds.Row.{Row}
@@ -20,7 +21,7 @@ pub among_done : (n : ℕ) (ps : List Part) (i : ℕ) → length ps ≤ i → pl
 among_done n ps i le = ap (λ qs. place_among (docs_in qs) n i) (drop_end ps i le)
 
 -- one more field
-pub below_more : (n : ℕ) (rs : List Row) (ps : List Part) (i : ℕ) (r : Row) (p : Part) → i < length rs → r ≡ get_or rs i r → i < length ps → p ≡ get_or ps i p → place_below (docs_in (drop i ps)) n (map row_view (drop i rs)) ≡ option_or (option_map (at_key r.name.now) (place_in (part_doc p) n)) (place_below (docs_in (drop (i + 1) ps)) n (map row_view (drop (i + 1) rs)))
+pub below_more : (n : ℕ) (rs : List Row) (ps : List Part) (i : ℕ) (r : Row) (p : Part) → i < length rs → r ≡ get_or rs i r → i < length ps → p ≡ get_or ps i p → place_below (docs_in (drop i ps)) n (map row_view (drop i rs)) ≡ option_or (option_map (at_key (key_of r.field)) (place_in (part_doc p) n)) (place_below (docs_in (drop (i + 1) ps)) n (map row_view (drop (i + 1) rs)))
 below_more n rs ps i r p lt here lt' here' = ap (λ qs. place_below (docs_in (drop i ps)) n (map row_view qs)) (drop_at rs i r lt here) ∙ ap (λ qs. place_below (docs_in qs) n (map row_view (r ∷ drop (i + 1) rs))) (drop_at ps i p lt' here')
 
 no_rows : (n : ℕ) (ds : Docs) → place_below ds n [] ≡ None

@@ -7,6 +7,7 @@ ghost use Rattle.oxt_tree.specs.View.{docs_in, field_in, node_doc, part_doc};
 use crate::ids::{NodeId, OutOfMemory};
 use crate::name::Name;
 use crate::tree::{Node, Part};
+use oxt_grammar::field::Field;
 use oxt_grammar::holds::Row;
 use oxt_grammar::kind::Kind;
 use std::alloc::Global;
@@ -104,7 +105,7 @@ fn push_from_fields(
 fn binds_nothing(row: &Row) -> bool
     ensures { result ≡ binds_nothing (row_view row.now) }
 {
-    row.name == "key" || row.name == "right"
+    row.is(Field::Key) || row.is(Field::Right)
 }
 
 /// Appends the bare name that the node is.
@@ -113,7 +114,7 @@ fn push_bare_name(alloc: Global, names: &mut Vec<BoundName>, node: &Node) -> Res
         (bound_views names.new.items ≡ bound_views names.old.items
         ++ bare_name node.now.id.0 (field_in (codes "name") node.now)) }
 {
-    let name = match node.field("name") {
+    let name = match node.field(Field::Name) {
         Some(Part::Text(name)) => name.share()?,
         Some(Part::Word(word)) => Name::new(alloc, word.text())?,
         _ => return Ok(()),

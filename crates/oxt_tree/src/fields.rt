@@ -1,28 +1,31 @@
-//! What the fields of a node hold, by the names that the grammar gives them.
+//! What the fields of a node hold.
 ghost use Rattle.std.specs.Prelude.{◌≡◌, ◌<◌, ◌^◌, option_map};
 ghost use Rattle.std.specs.List.{position_from, slice_get};
 ghost use Rattle.std.specs.Str.{bytes_eq};
 ghost use Rattle.oxt_grammar.specs.Field.{row_view};
+ghost use Rattle.oxt_grammar.specs.Keys.{key_of};
+ghost use Rattle.oxt_grammar.specs.Places.{same_field};
 ghost use Rattle.oxt_grammar.specs.Rows.{row_of};
 ghost use Rattle.oxt_grammar.specs.declared.holds.Holds.TheVariants as holds;
 ghost use Rattle.oxt_tree.specs.Doc.{Doc};
-ghost use Rattle.oxt_tree.specs.Fields.{named, elements, count, node_of, text_in, is_nil, is_set, is_text, is_kind, is_in, default_of, is_default, is_left_out, is_empty_list};
+ghost use Rattle.oxt_tree.specs.Fields.{named, field_of, elements, count, node_of, text_in, is_nil, is_set, is_text, is_kind, is_in, default_of, is_default, is_left_out, is_empty_list};
 ghost use Rattle.oxt_tree.specs.View.{doc_of_part, doc_or_nil, docs_in, node_doc, part_doc};
 
 use crate::tree::{Node, Part};
 use oxt_grammar::category::Category;
+use oxt_grammar::field::Field;
 use oxt_grammar::holds::{Holds, Presence, Row};
 use oxt_grammar::kind::Kind;
 use oxt_grammar::word::Words;
 use std::alloc::Global;
 
 impl Node {
-    /// What the field of that name holds; none where the node's kind has no such field.
+    /// What that field holds; none where the node's kind has no such field.
     #[tactic(auto, using(crate::proofs::Places::named_at))]
-    pub fn field(&self, name: &str) -> Option<&Part>
-        ensures { doc_or_nil result ≡ named name.now self.now.kind (docs_in self.now.parts.items) }
+    pub fn field(&self, field: Field) -> Option<&Part>
+        ensures { doc_or_nil result ≡ named (key_of field) self.now.kind (docs_in self.now.parts.items) }
     {
-        match place_of(self.kind.rows(), name) {
+        match place_of(self.kind.rows(), field) {
             Some(place) => self.at(place),
             None => None,
         }
@@ -35,54 +38,76 @@ impl Node {
         self.parts.get(place)
     }
 
-    /// Whether the field of that name is a flag that is set.
-    pub fn flag(&self, name: &str) -> bool
-        ensures { result ≡ is_set (named name.now self.now.kind (docs_in self.now.parts.items)) }
+    /// Whether that field is a flag that is set.
+    pub fn flag(&self, field: Field) -> bool
+        ensures { result ≡ is_set (named (key_of field) self.now.kind (docs_in self.now.parts.items)) }
     {
-        match self.field(name) {
+        match self.field(field) {
             Some(part) => part.is_set(),
             None => false,
         }
     }
 
-    /// Whether the field of that name is null, or the node's kind has no such field.
-    pub fn lacks(&self, name: &str) -> bool
-        ensures { result ≡ is_nil (named name.now self.now.kind (docs_in self.now.parts.items)) }
+    /// Whether that field is null, or the node's kind has no such field.
+    pub fn lacks(&self, field: Field) -> bool
+        ensures { result ≡ is_nil (named (key_of field) self.now.kind (docs_in self.now.parts.items)) }
     {
-        match self.field(name) {
+        match self.field(field) {
             Some(part) => part.is_nothing(),
             None => true,
         }
     }
 
-    /// The elements of the list in the field of that name; none where it holds no list.
-    pub fn list(&self, name: &str) -> &[Part]
+    /// The elements of the list in that field; none where it holds no list.
+    pub fn list(&self, field: Field) -> &[Part]
         ensures { docs_in result.now
-            ≡ elements (named name.now self.now.kind (docs_in self.now.parts.items)) }
+            ≡ elements (named (key_of field) self.now.kind (docs_in self.now.parts.items)) }
     {
-        match self.field(name) {
+        match self.field(field) {
             Some(part) => part.elements(),
             None => &[],
         }
     }
 
-    /// Whether the field of that name holds that text, or the word with that text.
-    pub fn holds_text(&self, name: &str, text: &str) -> bool
-        ensures { result
-            ≡ is_text text.now (named name.now self.now.kind (docs_in self.now.parts.items)) }
+    /// The text in that field, or that of the word in it.
+    pub fn text(&self, field: Field) -> Option<&str>
+        ensures { option_map (λ text. text.now) result
+            ≡ text_in (named (key_of field) self.now.kind (docs_in self.now.parts.items)) }
     {
-        match self.field(name) {
+        match self.field(field) {
+            Some(part) => part.as_text(),
+            None => None,
+        }
+    }
+
+    /// The node in that field.
+    pub fn child(&self, field: Field) -> Option<&Node>
+        ensures { option_map (λ node. node_doc node.now) result
+            ≡ node_of (named (key_of field) self.now.kind (docs_in self.now.parts.items)) }
+    {
+        match self.field(field) {
+            Some(part) => part.as_node(),
+            None => None,
+        }
+    }
+
+    /// Whether that field holds that text, or the word with that text.
+    pub fn holds_text(&self, field: Field, text: &str) -> bool
+        ensures { result
+            ≡ is_text text.now (named (key_of field) self.now.kind (docs_in self.now.parts.items)) }
+    {
+        match self.field(field) {
             Some(part) => part.is_text(text),
             None => false,
         }
     }
 
-    /// Whether the field of that name holds a node of that kind.
-    pub fn holds_kind(&self, name: &str, kind: Kind) -> bool
+    /// Whether that field holds a node of that kind.
+    pub fn holds_kind(&self, field: Field, kind: Kind) -> bool
         ensures { result
-            ≡ is_kind kind (named name.now self.now.kind (docs_in self.now.parts.items)) }
+            ≡ is_kind kind (named (key_of field) self.now.kind (docs_in self.now.parts.items)) }
     {
-        match self.field(name) {
+        match self.field(field) {
             Some(part) => part.is_kind(kind),
             None => false,
         }
@@ -90,6 +115,26 @@ impl Node {
 }
 
 impl Part {
+    /// What that field of the node that it is holds; none for anything else.
+    pub fn field(&self, field: Field) -> Option<&Part>
+        ensures { doc_or_nil result ≡ field_of (key_of field) (part_doc self.now) }
+    {
+        match self {
+            Part::Node(node) => node.field(field),
+            _ => None,
+        }
+    }
+
+    /// The elements of the list in that field of the node that it is; none for anything else.
+    pub fn list(&self, field: Field) -> &[Part]
+        ensures { docs_in result.now ≡ elements (field_of (key_of field) (part_doc self.now)) }
+    {
+        match self {
+            Part::Node(node) => node.list(field),
+            _ => &[],
+        }
+    }
+
     /// Whether it is null.
     pub fn is_nothing(&self) -> bool
         ensures { result ≡ is_nil (part_doc self.now) }
@@ -225,11 +270,11 @@ impl Part {
     }
 }
 
-/// The place of the first row of that name.
-pub fn place_of(rows: &[Row], name: &str) -> Option<usize>
-    ensures { result ≡ position_from (λ row. bytes_eq row.name.now name.now) 0 rows.now }
+/// The place of the first row of that field.
+pub fn place_of(rows: &[Row], field: Field) -> Option<usize>
+    ensures { result ≡ position_from (λ row. same_field row.field field) 0 rows.now }
 {
-    rows.iter().position(|row| row.name == name)
+    rows.iter().position(|row| row.is(field))
 }
 
 /// What a field holds where it is left out.

@@ -80,7 +80,7 @@ fn place_below(
 {
     for i in 0..rows.len().min(parts.len()) {
         let inside = place_in_part(alloc, &parts[i], number)?;
-        if let Some(place) = seen_from_node(alloc, rows[i].name, inside)? {
+        if let Some(place) = seen_from_node(alloc, rows[i].name(), inside)? {
             return Ok(Some(place));
         }
     }

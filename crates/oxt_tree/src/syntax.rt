@@ -7,6 +7,7 @@ ghost use Rattle.oxt_tree.specs.View.{docs_in, field_in, node_doc, part_doc};
 
 use crate::tree::{Node, Part};
 use oxt_grammar::category::Category;
+use oxt_grammar::field::Field;
 use oxt_grammar::kind::Kind;
 
 impl Node {
@@ -23,23 +24,23 @@ impl Node {
         ensures { result ≡ is_erased self.now.kind (docs_in self.now.parts.items) }
     {
         is_erased_kind(self.kind)
-            || self.flag("declare")
+            || self.flag(Field::Declare)
             || self.is_type_only()
-            || self.holds_kind("value", Kind::TSEmptyBodyFunctionExpression)
+            || self.holds_kind(Field::Value, Kind::TSEmptyBodyFunctionExpression)
     }
 
     /// Whether it is an import or an export of types alone.
     pub fn is_type_only(&self) -> bool
         ensures { result ≡ is_type_only self.now.kind (docs_in self.now.parts.items) }
     {
-        self.holds_text("importKind", "type") || self.holds_text("exportKind", "type")
+        self.holds_text(Field::ImportKind, "type") || self.holds_text(Field::ExportKind, "type")
     }
 
     /// Whether it is an export of a declaration that is erased.
     fn exports_erased(&self) -> bool
         ensures { result ≡ is_erased_node (field_in (codes "declaration") self.now) }
     {
-        match self.field("declaration") {
+        match self.field(Field::Declaration) {
             Some(Part::Node(declaration)) => declaration.is_erased(),
             _ => false,
         }
@@ -51,7 +52,7 @@ impl Node {
     pub fn is_definition_file(&self) -> bool
         ensures { result ≡ is_definition_file (node_doc self.now) }
     {
-        self.holds_text("lang", "dts")
+        self.holds_text(Field::Lang, "dts")
     }
 
     /// Whether it is a declaration that stands for nothing at run time: by its kind, by `declare` or

@@ -6,6 +6,7 @@ ghost use Rattle.oxt_tree.specs.View.{docs_in, node_doc};
 ghost use Rattle.oxt_unbuilt.specs.Unbuilt.{form_at, is_parameter_property, sought, unbuilt};
 
 use crate::unbuilt_kinds::is_unbuilt;
+use oxt_grammar::field::Field;
 use oxt_grammar::holds::Row;
 use oxt_grammar::kind::Kind;
 use oxt_search::first::first_in;
@@ -73,5 +74,6 @@ fn is_parameter_property(node: &Node) -> bool
     ensures { result ≡ is_parameter_property node.now.kind (docs_in node.now.parts.items) }
 {
     node.kind.is(Kind::FormalParameter)
-        && (!node.lacks("accessibility") || (node.flag("readonly") || node.flag("override")))
+        && (!node.lacks(Field::Accessibility)
+            || (node.flag(Field::Readonly) || node.flag(Field::Override)))
 }

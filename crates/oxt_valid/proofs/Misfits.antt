@@ -2,6 +2,7 @@
 use Rattle.std.proofs.Common.{ℕ, suc, ◌+◌, ◌<◌, ◌≤◌, ◌^◌, ◌≡◌, refl, ap, ◌∙◌, arith, List, [], ◌∷◌, length, map, drop, true, false, nat_lt, nat_le, get_or, Option, None, Some}
 use Rattle.std.proofs.lemmas.Bool.Decides.{nat_tests}
 use Rattle.std.specs.Fmt.{decimal}
+use Rattle.oxt_grammar.specs.Keys.{key_of}
 use Rattle.oxt_grammar.specs.Field.{row_view}
 use Rattle.oxt_grammar.specs.Places.{narrow}
 use Rattle.oxt_grammar.specs.declared.category.Category.{Category}
@@ -32,11 +33,11 @@ each_at ps i p s h k e = ap (λ qs. misfit_in_each (docs_in qs) s i h) (drop_at 
 -- the steps of the loop over a list
 pub ruleset each_steps = (each_at, each_end)
 
-pub field_at : (ps : List Part) (rs : List Row) (i : ℕ) (p : Part) (r : Row) (s inner : Setting) → i < length ps → p ≡ get_or ps i p → i < length rs → r ≡ get_or rs i r → misfit_in_fields (docs_in (drop i ps)) s inner (map row_view (drop i rs)) ≡ or_else (below r.name.now (misfit (part_doc p) inner (narrow s r.holds))) (misfit_in_fields (docs_in (drop (i + 1) ps)) s inner (map row_view (drop (i + 1) rs)))
+pub field_at : (ps : List Part) (rs : List Row) (i : ℕ) (p : Part) (r : Row) (s inner : Setting) → i < length ps → p ≡ get_or ps i p → i < length rs → r ≡ get_or rs i r → misfit_in_fields (docs_in (drop i ps)) s inner (map row_view (drop i rs)) ≡ or_else (below (key_of r.field) (misfit (part_doc p) inner (narrow s r.holds))) (misfit_in_fields (docs_in (drop (i + 1) ps)) s inner (map row_view (drop (i + 1) rs)))
 field_at ps rs i p r s inner h e k f = ap (λ qs. misfit_in_fields (docs_in qs) s inner (map row_view (drop i rs))) (drop_at ps i p h e) ∙ ap (λ qs. misfit_in_fields (docs_in (p ∷ drop (i + 1) ps)) s inner (map row_view qs)) (drop_at rs i r k f)
 
 -- a field is missing
-pub field_missing : (ps : List Part) (rs : List Row) (i : ℕ) (r : Row) (s inner : Setting) → length ps ≤ i → i < length rs → r ≡ get_or rs i r → misfit_in_fields (docs_in (drop i ps)) s inner (map row_view (drop i rs)) ≡ Some (at_key r.name.now [])
+pub field_missing : (ps : List Part) (rs : List Row) (i : ℕ) (r : Row) (s inner : Setting) → length ps ≤ i → i < length rs → r ≡ get_or rs i r → misfit_in_fields (docs_in (drop i ps)) s inner (map row_view (drop i rs)) ≡ Some (at_key (key_of r.field) [])
 field_missing ps rs i r s inner h k f = ap (λ qs. misfit_in_fields (docs_in qs) s inner (map row_view (drop i rs))) (drop_end ps i h) ∙ ap (λ qs. misfit_in_fields (docs_in []) s inner (map row_view qs)) (drop_at rs i r k f)
 
 none_less : (n : ℕ) → true ≡ nat_le 0 n

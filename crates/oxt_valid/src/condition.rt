@@ -6,9 +6,11 @@ ghost use Rattle.oxt_tree.specs.Fields.{count};
 ghost use Rattle.oxt_tree.specs.Inner.{seen};
 ghost use Rattle.oxt_tree.specs.Fields.{named, field_of, elements, docs_list, is_nil, is_set, is_kind};
 ghost use Rattle.oxt_tree.specs.View.{docs_in, field_in, part_doc};
+ghost use Rattle.oxt_grammar.specs.Keys.{key_of};
 
 use oxt_grammar::category::Category;
 use oxt_grammar::context::{Condition, Setting};
+use oxt_grammar::field::Field;
 use oxt_grammar::kind::Kind;
 use oxt_tree::fields::count;
 use oxt_tree::tree::{Node, Part};
@@ -21,57 +23,60 @@ pub fn fault(node: &Node, setting: Setting) -> Option<&'static str>
 {
     match node.kind.condition() {
         Condition::Nothing => None,
-        Condition::ElementKey => fault_at("computed", key_fails(node, "key", true)),
-        Condition::PlainKey => fault_at("computed", key_fails(node, "key", false)),
-        Condition::TargetKey => fault_at("computed", key_fails(node, "name", false)),
-        Condition::Number => fault_at("value", node.lacks("value") && node.lacks("raw")),
-        Condition::Chain => fault_at("expression", chain_fails(node)),
-        Condition::Template => fault_at("quasis", template_fails(node)),
-        Condition::EnumMember => fault_at("id", member_fails(node)),
-        Condition::Constructors => fault_at("body", constructors_fail(node.list("body"))),
-        Condition::NamedDeclaration => fault_at("id", name_fails(node, setting)),
-        Condition::LiteralType => fault_at("literal", literal_fails(node)),
+        Condition::ElementKey => fault_at(Field::Computed, key_fails(node, Field::Key, true)),
+        Condition::PlainKey => fault_at(Field::Computed, key_fails(node, Field::Key, false)),
+        Condition::TargetKey => fault_at(Field::Computed, key_fails(node, Field::Name, false)),
+        Condition::Number => fault_at(
+            Field::Value,
+            node.lacks(Field::Value) && node.lacks(Field::Raw),
+        ),
+        Condition::Chain => fault_at(Field::Expression, chain_fails(node)),
+        Condition::Template => fault_at(Field::Quasis, template_fails(node)),
+        Condition::EnumMember => fault_at(Field::Id, member_fails(node)),
+        Condition::Constructors => fault_at(Field::Body, constructors_fail(node.list(Field::Body))),
+        Condition::NamedDeclaration => fault_at(Field::Id, name_fails(node, setting)),
+        Condition::LiteralType => fault_at(Field::Literal, literal_fails(node)),
     }
 }
 
 /// The field, where the condition fails.
-fn fault_at(name: &'static str, fails: bool) -> Option<&'static str>
-    ensures { option_map (λ t. t.now) result ≡ fault_at name.now fails }
+fn fault_at(field: Field, fails: bool) -> Option<&'static str>
+    ensures { option_map (λ t. t.now) result ≡ fault_at (key_of field) fails }
 {
-    if fails { Some(name) } else { None }
+    if fails { Some(field.name()) } else { None }
 }
 
 /// Whether the key in that field and the node's flag `computed` do not go together.
-fn key_fails(node: &Node, name: &str, is_element: bool) -> bool
+fn key_fails(node: &Node, field: Field, is_element: bool) -> bool
     ensures { result
         ≡ key_fails is_element
-        (field_in name.now node.now)
+        (field_in (key_of field) node.now)
         (field_in (codes "computed") node.now) }
 {
-    let is_computed = node.flag("computed");
-    if node.holds_kind(name, Kind::IdentifierName) {
+    let is_computed = node.flag(Field::Computed);
+    if node.holds_kind(field, Kind::IdentifierName) {
         is_computed
-    } else if node.holds_kind(name, Kind::PrivateIdentifier) {
+    } else if node.holds_kind(field, Kind::PrivateIdentifier) {
         is_computed || !is_element
     } else {
-        !holds_literal(node, name) && !is_computed
+        !holds_literal(node, field) && !is_computed
     }
 }
 
 /// Whether the field holds a number, a whole number or a text.
-fn holds_literal(node: &Node, name: &str) -> bool
-    ensures { result ≡ is_literal (field_in name.now node.now) }
+fn holds_literal(node: &Node, field: Field) -> bool
+    ensures { result ≡ is_literal (field_in (key_of field) node.now) }
 {
-    node.holds_kind(name, Kind::NumericLiteral)
-        || node.holds_kind(name, Kind::BigIntLiteral)
-        || node.holds_kind(name, Kind::StringLiteral)
+    node.holds_kind(field, Kind::NumericLiteral)
+        || node.holds_kind(field, Kind::BigIntLiteral)
+        || node.holds_kind(field, Kind::StringLiteral)
 }
 
 /// Whether the `!` in a chain holds neither a call nor a member.
 fn chain_fails(node: &Node) -> bool
     ensures { result ≡ chain_fails (field_in (codes "expression") node.now) }
 {
-    match node.field("expression") {
+    match node.field(Field::Expression) {
         Some(element) => {
             element.is_kind(Kind::TSNonNullExpression) && !is_chain_link(element.seen())
         }
@@ -93,7 +98,7 @@ fn template_fails(node: &Node) -> bool
         (field_in (codes "quasis") node.now)
         (field_in (codes "expressions") node.now) }
 {
-    count(node.list("quasis")) != count(node.list("expressions")) + 1
+    count(node.list(Field::Quasis)) != count(node.list(Field::Expressions)) + 1
 }
 
 /// Whether the name of an enum's member and its brackets do not go together.
@@ -101,8 +106,8 @@ fn member_fails(node: &Node) -> bool
     ensures { result
         ≡ member_fails (field_in (codes "id") node.now) (field_in (codes "computed") node.now) }
 {
-    let is_computed = node.flag("computed");
-    match node.field("id") {
+    let is_computed = node.flag(Field::Computed);
+    match node.field(Field::Id) {
         Some(id) if id.is_kind(Kind::TemplateLiteral) => !(is_computed && is_plain_template(id)),
         Some(id) => id.is_kind(Kind::IdentifierName) && is_computed,
         None => false,
@@ -115,7 +120,8 @@ fn is_plain_template(part: &Part) -> bool
 {
     match part {
         Part::Node(template) => {
-            count(template.list("expressions")) == 0 && begins_with_text(template.list("quasis"))
+            count(template.list(Field::Expressions)) == 0
+                && begins_with_text(template.list(Field::Quasis))
         }
         _ => false,
     }
@@ -126,7 +132,7 @@ fn begins_with_text(quasis: &[Part]) -> bool
     ensures { result ≡ begins_with_text (docs_in quasis.now) }
 {
     match quasis.first() {
-        Some(Part::Node(quasi)) => !quasi.lacks("cooked"),
+        Some(Part::Node(quasi)) => !quasi.lacks(Field::Cooked),
         _ => false,
     }
 }
@@ -163,11 +169,9 @@ fn constructors_with_body(elements: &[Part]) -> usize
 fn is_constructor(part: &Part) -> bool
     ensures { result ≡ is_constructor (part_doc part.now) }
 {
-    match part {
-        Part::Node(element) => {
-            element.holds_text("kind", "constructor") && element.kind.is(Kind::MethodDefinition)
-        }
-        _ => false,
+    match part.field(Field::Kind) {
+        Some(kind) => kind.is_text("constructor") && part.is_kind(Kind::MethodDefinition),
+        None => false,
     }
 }
 
@@ -176,7 +180,7 @@ fn is_static_constructor(part: &Part) -> bool
     ensures { result ≡ is_static_constructor (part_doc part.now) }
 {
     match part {
-        Part::Node(element) => is_constructor(part) && element.flag("static"),
+        Part::Node(element) => is_constructor(part) && element.flag(Field::Static),
         _ => false,
     }
 }
@@ -189,7 +193,7 @@ fn is_constructor_with_body(part: &Part) -> bool
         Part::Node(element) => {
             is_constructor(part)
                 && element.kind.is(Kind::MethodDefinition)
-                && element.holds_kind("value", Kind::FunctionExpression)
+                && element.holds_kind(Field::Value, Kind::FunctionExpression)
         }
         _ => false,
     }
@@ -200,7 +204,7 @@ fn name_fails(node: &Node, setting: Setting) -> bool
     ensures { result
         ≡ (is_nil (field_in (codes "id") node.now) && not (is_default_export setting)) }
 {
-    node.lacks("id") && !is_default_export(setting)
+    node.lacks(Field::Id) && !is_default_export(setting)
 }
 
 /// Whether the node stands directly in a default export.
@@ -218,9 +222,9 @@ fn is_default_export(setting: Setting) -> bool
 fn literal_fails(node: &Node) -> bool
     ensures { result ≡ literal_fails (field_in (codes "literal") node.now) }
 {
-    match node.field("literal") {
+    match node.field(Field::Literal) {
         Some(Part::Node(literal)) => {
-            literal.kind.is(Kind::UnaryExpression) && !holds_literal(literal, "argument")
+            literal.kind.is(Kind::UnaryExpression) && !holds_literal(literal, Field::Argument)
         }
         _ => false,
     }

@@ -146,10 +146,10 @@ fn misfit_in_fields(
 {
     for (i, row) in rows.iter().enumerate() {
         let Some(part) = parts.get(i) else {
-            return at(alloc, row.name);
+            return at(alloc, row.name());
         };
         let inside = misfit_in_part(alloc, part, inner, row.holds.within(setting))?;
-        if let Some(place) = place_below(alloc, row.name, inside)? {
+        if let Some(place) = place_below(alloc, row.name(), inside)? {
             return Ok(Some(place));
         }
     }

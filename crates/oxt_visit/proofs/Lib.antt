@@ -1,1 +1,5 @@
+pub mod Called
+pub mod Going
 pub mod Rests
+pub mod Steps
+pub mod Watched

@@ -22,7 +22,7 @@ drop_suc_set (x ∷ xs) zero y = refl
 drop_suc_set (x ∷ xs) (suc i) y = drop_suc_set xs i y
 
 -- behind an element that is changed all is as it was
-drop_set : {A : Type 0} (xs : List A) (i : ℕ) (y : A) → drop (i + 1) (set xs i y) ≡ drop (i + 1) xs
+pub drop_set : {A : Type 0} (xs : List A) (i : ℕ) (y : A) → drop (i + 1) (set xs i y) ≡ drop (i + 1) xs
 drop_set xs i y = rw add-one (drop_suc_set xs i y)
 
 -- what the elements from the place on weigh

@@ -1,3 +1,7 @@
+pub mod Calls
+pub mod Place
 pub mod Reading
 pub mod Scope
+pub mod Visits
+pub mod Walks
 pub mod Weight

@@ -1,5 +1,6 @@
 //! Where nodes stand, and which of them open a scope.
 ghost use Rattle.std.specs.Prelude.{◌≡◌};
+ghost use Rattle.oxt_visit.specs.Place.{holds_expressions, is_expression_kind, place_of};
 ghost use Rattle.oxt_visit.specs.Scope.{is_opening, opens_scope};
 
 use oxt_declares::role::Role;
@@ -9,7 +10,9 @@ use oxt_grammar::holds::Holds;
 use oxt_grammar::kind::Kind;
 
 /// The place of the nodes that a field holds; none where it holds no nodes.
-pub fn place_of(holds: Holds) -> Option<Category> {
+pub fn place_of(holds: Holds) -> Option<Category>
+    ensures { result ≡ place_of holds }
+{
     match holds {
         Holds::Node(category) => Some(category),
         Holds::NodeOrNull(category) => Some(category),
@@ -23,15 +26,24 @@ pub fn place_of(holds: Holds) -> Option<Category> {
 
 /// Whether a node of the kind is an expression at that place. Parts of a chain, targets of assignments, names of
 /// JSX and the parts of types are none, whatever their kind.
-pub fn is_expression(place: Category, kind: Kind) -> bool {
+pub fn is_expression(place: Category, kind: Kind) -> bool
+    ensures { result ≡ is_expression_kind place kind }
+{
+    holds_expressions(place) && Category::Expression.contains(kind)
+}
+
+/// Whether expressions may stand at that place.
+fn holds_expressions(place: Category) -> bool
+    ensures { result ≡ holds_expressions place }
+{
     match place {
-        Category::Expression
-        | Category::Argument
-        | Category::PropertyKey
-        | Category::ForStatementInit
-        | Category::ArrowFunctionBody
-        | Category::ExportDefaultDeclarationKind
-        | Category::JSXExpression => Category::Expression.contains(kind),
+        Category::Expression => true,
+        Category::Argument => true,
+        Category::PropertyKey => true,
+        Category::ForStatementInit => true,
+        Category::ArrowFunctionBody => true,
+        Category::ExportDefaultDeclarationKind => true,
+        Category::JSXExpression => true,
         _ => false,
     }
 }

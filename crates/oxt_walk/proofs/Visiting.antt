@@ -5,6 +5,7 @@ use Rattle.std.specs.Str.{bytes_eq}
 use Rattle.std.proofs.lemmas.Bool.{ne_eqb}
 use Rattle.std.proofs.Math.Seq.{drop-cons}
 use Rattle.std.proofs.Math.ListN.{set}
+use Rattle.oxt_grammar.specs.Keys.{key_of}
 use Rattle.oxt_grammar.specs.Field.{row_view}
 use Rattle.oxt_grammar.specs.Rows.{row_of}
 use Rattle.oxt_grammar.specs.declared.category.Category.{Category}
@@ -135,13 +136,13 @@ no_part (q ∷ ps) zero le = absurd (omega arith)
 no_part (q ∷ ps) (suc i) le = no_part ps i (omega arith)
 
 -- the part at the place of the field is the field
-pub body_here : (name : List ℕ) (k : Kind) (rs : List Row) (ps : List Part) (i : ℕ) (p : Part) → map row_view rs ≡ row_of k → Some i ≡ position_from (λ r. bytes_eq r.name.now name) 0 rs → i < length ps → p ≡ get_or ps i p → part_doc p ≡ named name k (docs_in ps)
+pub body_here : (name : List ℕ) (k : Kind) (rs : List Row) (ps : List Part) (i : ℕ) (p : Part) → map row_view rs ≡ row_of k → Some i ≡ position_from (λ r. bytes_eq (key_of r.field) name) 0 rs → i < length ps → p ≡ get_or ps i p → part_doc p ≡ named name k (docs_in ps)
 body_here name k rs ps i p rows place lt here = sym (part_here ps i p lt here) ∙ named_at name k rs ps (Some i) rows place
 
 -- the place is behind the parts
-pub body_short : (name : List ℕ) (k : Kind) (rs : List Row) (ps : List Part) (i : ℕ) → map row_view rs ≡ row_of k → Some i ≡ position_from (λ r. bytes_eq r.name.now name) 0 rs → length ps ≤ i → nil ≡ named name k (docs_in ps)
+pub body_short : (name : List ℕ) (k : Kind) (rs : List Row) (ps : List Part) (i : ℕ) → map row_view rs ≡ row_of k → Some i ≡ position_from (λ r. bytes_eq (key_of r.field) name) 0 rs → length ps ≤ i → nil ≡ named name k (docs_in ps)
 body_short name k rs ps i rows place le = sym (no_part ps i le) ∙ named_at name k rs ps (Some i) rows place
 
 -- the field is no field of the kind
-pub body_missing : (name : List ℕ) (k : Kind) (rs : List Row) (ps : List Part) → map row_view rs ≡ row_of k → None ≡ position_from (λ r. bytes_eq r.name.now name) 0 rs → nil ≡ named name k (docs_in ps)
+pub body_missing : (name : List ℕ) (k : Kind) (rs : List Row) (ps : List Part) → map row_view rs ≡ row_of k → None ≡ position_from (λ r. bytes_eq (key_of r.field) name) 0 rs → nil ≡ named name k (docs_in ps)
 body_missing name k rs ps rows place = named_at name k rs ps None rows place

@@ -8,6 +8,7 @@ ghost use Rattle.oxt_walk.specs.Class.{bound_name, class_name};
 
 use oxt_ctx::ancestor::AncestorRecord;
 use oxt_ctx::context::TraverseCtx;
+use oxt_grammar::field::Field;
 use oxt_grammar::kind::Kind;
 use oxt_tree::ids::OutOfMemory;
 use oxt_tree::name::Name;
@@ -58,7 +59,7 @@ fn class_name(node: &Node) -> Result<Option<Name>, OutOfMemory>
         ≡ class_name node.now.kind (docs_in node.now.parts.items)) }
 {
     if node.kind.is(Kind::ClassDeclaration) || node.kind.is(Kind::ClassExpression) {
-        match node.field("id") {
+        match node.field(Field::Id) {
             Some(binding) => bound_name(binding),
             None => Ok(None),
         }
@@ -72,7 +73,7 @@ fn bound_name(part: &Part) -> Result<Option<Name>, OutOfMemory>
     ensures { IfOk result (λ name. option_map name_bytes name ≡ bound_name (part_doc part.now)) }
 {
     match part {
-        Part::Node(binding) => match binding.field("name") {
+        Part::Node(binding) => match binding.field(Field::Name) {
             Some(name) => text_of(*binding.parts.allocator(), name),
             None => Ok(None),
         },

@@ -15,6 +15,7 @@ use crate::place::{is_body, is_statements, place_of};
 use crate::record::{go_into, go_out};
 use oxt_ctx::context::TraverseCtx;
 use oxt_grammar::category::Category;
+use oxt_grammar::field::Field;
 use oxt_grammar::holds::Holds;
 use oxt_traverse::dispatch::{enter_node, leave_node};
 use oxt_traverse::traverse::Traverse;
@@ -66,7 +67,7 @@ fn walk_program_body<T: Traverse>(
     ensures untouched { OnOk result (IsUntouched (IsWatched T.watches ctx.old) (node_doc program.old) (node_doc program.new) ctx.old ctx.new) }
     ensures logged { OnOk result (HasLogged (IsWatched T.watches ctx.old) T.trace (T.log pass.old) (T.log pass.new) (of_body (field_of (codes "body") (node_doc program.old)))) }
 {
-    match fields::place_of(program.kind.rows(), "body") {
+    match fields::place_of(program.kind.rows(), Field::Body) {
         Some(place) => {
             if place < program.parts.len() {
                 walk_body(pass, &mut program.parts[place], ctx)

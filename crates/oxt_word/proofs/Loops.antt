@@ -3,6 +3,7 @@ use Rattle.std.proofs.Common.{◌≡◌, ◌∙◌, refl, sym, ap, ℕ, zero, su
 use Rattle.std.proofs.lemmas.Bool.Decides.{nat_tests}
 use Rattle.std.specs.List.{position_from, slice_get}
 use Rattle.std.specs.Str.{bytes_eq}
+use Rattle.oxt_grammar.specs.Keys.{key_of}
 use Rattle.oxt_facts.specs.Facts.{Known}
 use Rattle.oxt_grammar.specs.Rows.{row_of}
 use Rattle.oxt_grammar.specs.declared.kind.Kind.{Kind}
@@ -105,7 +106,7 @@ said_named f name (r ∷ rs) (doc d ds) w = step (bytes_eq r.name name) (said_na
     step false e = e
 
 -- The field of that name stands at the place of its row.
-pub field_at : (f : Known) (name : List ℕ) (k : Kind) (rs : List Row) (ps : List Part) (o : Option ℕ) (w : Way) → map row_view rs ≡ row_of k → o ≡ position_from (λ r. bytes_eq r.name.now name) 0 rs → field_said f (docs_in ps) (row_of k) name w ≡ said f (doc_at ps o) w
+pub field_at : (f : Known) (name : List ℕ) (k : Kind) (rs : List Row) (ps : List Part) (o : Option ℕ) (w : Way) → map row_view rs ≡ row_of k → o ≡ position_from (λ r. bytes_eq (key_of r.field) name) 0 rs → field_said f (docs_in ps) (row_of k) name w ≡ said f (doc_at ps o) w
 field_at f name k rs ps o w rows place = said_named f name (row_of k) (docs_in ps) w ∙ ap (λ d. said f d w) (sym (named_at name k rs ps o rows place))
 
 slice_get_at : (ps : List Part) (i : ℕ) (p : Part) → i < length ps → p ≡ get_or ps i p → slice_get ps i ≡ Some p
@@ -119,17 +120,17 @@ slice_get_past (q ∷ ps) zero past = absurd (omega arith)
 slice_get_past (q ∷ ps) (suc i) past = slice_get_past ps i (omega arith)
 
 -- a field whose row and part are there
-pub field_some : (f : Known) (name : List ℕ) (k : Kind) (rs : List Row) (ps qs : List Part) (i : ℕ) (p : Part) (w : Way) → map row_view rs ≡ row_of k → Some i ≡ position_from (λ r. bytes_eq r.name.now name) 0 rs → qs ≡ ps
+pub field_some : (f : Known) (name : List ℕ) (k : Kind) (rs : List Row) (ps qs : List Part) (i : ℕ) (p : Part) (w : Way) → map row_view rs ≡ row_of k → Some i ≡ position_from (λ r. bytes_eq (key_of r.field) name) 0 rs → qs ≡ ps
     → i < length qs → p ≡ get_or qs i p → said f (part_doc p) w ≡ field_said f (docs_in ps) (row_of k) name w
 field_some f name k rs ps qs i p w rows place same within is =
     sym (field_at f name k rs ps (Some i) w rows place ∙ ap (λ o. said f (doc_of_part o) w) (ap (λ xs. slice_get xs i) (sym same) ∙ slice_get_at qs i p within is))
 
 -- a field whose part is not there
-pub field_past : (f : Known) (name : List ℕ) (k : Kind) (rs : List Row) (ps qs : List Part) (i : ℕ) (w : Way) → map row_view rs ≡ row_of k → Some i ≡ position_from (λ r. bytes_eq r.name.now name) 0 rs → qs ≡ ps
+pub field_past : (f : Known) (name : List ℕ) (k : Kind) (rs : List Row) (ps qs : List Part) (i : ℕ) (w : Way) → map row_view rs ≡ row_of k → Some i ≡ position_from (λ r. bytes_eq (key_of r.field) name) 0 rs → qs ≡ ps
     → length qs ≤ i → lone item.Nil ≡ field_said f (docs_in ps) (row_of k) name w
 field_past f name k rs ps qs i w rows place same past =
     sym (field_at f name k rs ps (Some i) w rows place ∙ ap (λ o. said f (doc_of_part o) w) (ap (λ xs. slice_get xs i) (sym same) ∙ slice_get_past qs i past))
 
 -- a field whose row is not there
-pub field_none : (f : Known) (name : List ℕ) (k : Kind) (rs : List Row) (ps : List Part) (w : Way) → map row_view rs ≡ row_of k → None ≡ position_from (λ r. bytes_eq r.name.now name) 0 rs → lone item.Nil ≡ field_said f (docs_in ps) (row_of k) name w
+pub field_none : (f : Known) (name : List ℕ) (k : Kind) (rs : List Row) (ps : List Part) (w : Way) → map row_view rs ≡ row_of k → None ≡ position_from (λ r. bytes_eq (key_of r.field) name) 0 rs → lone item.Nil ≡ field_said f (docs_in ps) (row_of k) name w
 field_none f name k rs ps w rows place = sym (field_at f name k rs ps None w rows place)

@@ -16,6 +16,7 @@ use oxt_facts::item::{Binding, Item, ItemKind};
 use oxt_forms::forms::is_long;
 use oxt_forms::made::is_quiet;
 use oxt_forms::passing::{is_passing, passes_on};
+use oxt_grammar::field::Field;
 use oxt_put::put::{
     field_atom, put_field_start, put_first, put_lone, put_number, put_open, put_private, put_start,
 };
@@ -29,12 +30,12 @@ fn put_class_parts(facts: &Facts, node: &Node, out: &mut Vec<Item>) -> Result<()
     ensures { OnOk result (entries out.new.items
         ≡ entries out.old.items ++ class_parts (each_field facts.now node.now)) }
 {
-    put_field(facts, node, "superClass", Way::Whole, out)?;
-    put_field(facts, node, "body", Way::Keys, out)?;
-    put_field(facts, node, "body", Way::Statics, out)?;
-    put_field(facts, node, "body", Way::Fields, out)?;
-    put_field(facts, node, "body", Way::Methods, out)?;
-    put_field(facts, node, "body", Way::Constructor, out)
+    put_field(facts, node, Field::SuperClass, Way::Whole, out)?;
+    put_field(facts, node, Field::Body, Way::Keys, out)?;
+    put_field(facts, node, Field::Body, Way::Statics, out)?;
+    put_field(facts, node, Field::Body, Way::Fields, out)?;
+    put_field(facts, node, Field::Body, Way::Methods, out)?;
+    put_field(facts, node, Field::Body, Way::Constructor, out)
 }
 
 /// Puts a declaration of a class, and then its name, which is exported or not.
@@ -50,10 +51,16 @@ pub(crate) fn put_class(
         (each_field facts.now node.now)) }
 {
     put_open(facts.memory(), node, out)?;
-    put_field(facts, node, "decorators", Way::Whole, out)?;
+    put_field(facts, node, Field::Decorators, Way::Whole, out)?;
     put_class_parts(facts, node, out)?;
     put_lone(facts.memory(), ItemKind::Close, out)?;
-    put_field(facts, node, "id", Way::Bound(Binding::Class, exported), out)
+    put_field(
+        facts,
+        node,
+        Field::Id,
+        Way::Bound(Binding::Class, exported),
+        out,
+    )
 }
 
 /// Puts a class expression.
@@ -68,8 +75,14 @@ pub(crate) fn put_class_expression(
         (docs_in node.now.parts.items) (each_field facts.now node.now)) }
 {
     put_open(facts.memory(), node, out)?;
-    put_field(facts, node, "decorators", Way::Whole, out)?;
-    put_field(facts, node, "id", Way::Bound(Binding::Inner, false), out)?;
+    put_field(facts, node, Field::Decorators, Way::Whole, out)?;
+    put_field(
+        facts,
+        node,
+        Field::Id,
+        Way::Bound(Binding::Inner, false),
+        out,
+    )?;
     put_class_parts(facts, node, out)?;
     put_lone(facts.memory(), ItemKind::Close, out)
 }
@@ -106,11 +119,11 @@ fn put_constructor_function(
     if passes_on(facts, node) {
         put_lone(facts.memory(), ItemKind::Nil, out)?;
         put_lone(facts.memory(), ItemKind::Body, out)?;
-        return put_field(facts, node, "body", Way::PassOn, out);
+        return put_field(facts, node, Field::Body, Way::PassOn, out);
     }
-    put_field(facts, node, "params", Way::Whole, out)?;
+    put_field(facts, node, Field::Params, Way::Whole, out)?;
     put_lone(facts.memory(), ItemKind::Body, out)?;
-    put_field(facts, node, "body", Way::Whole, out)
+    put_field(facts, node, Field::Body, Way::Whole, out)
 }
 
 /// Puts the body of a constructor that passes on what it is given.
@@ -149,9 +162,9 @@ pub(crate) fn put_keyed(
         (each_field facts.now node.now) (all_fields facts.now node.now)) }
 {
     match rule {
-        Rule::Transparent => put_field(facts, node, "expression", Way::Keyed, out),
+        Rule::Transparent => put_field(facts, node, Field::Expression, Way::Keyed, out),
         Rule::Sequence if is_long(node) => {
-            put_field(facts, node, "expressions", Way::InTurnKeyed, out)
+            put_field(facts, node, Field::Expressions, Way::InTurnKeyed, out)
         }
         Rule::PropertyName => Ok(()),
         Rule::Literal(_) => Ok(()),
@@ -177,9 +190,9 @@ pub(crate) fn put_key_text(
         (each_field facts.now node.now)) }
 {
     match rule {
-        Rule::Transparent => put_field(facts, node, "expression", Way::KeyText, out),
+        Rule::Transparent => put_field(facts, node, Field::Expression, Way::KeyText, out),
         Rule::Sequence if is_long(node) => {
-            put_field(facts, node, "expressions", Way::LastText, out)
+            put_field(facts, node, Field::Expressions, Way::LastText, out)
         }
         Rule::PropertyName => put_first(facts.memory(), ItemKind::Str, node, out),
         Rule::Literal(kind) => put_first(facts.memory(), kind, node, out),
@@ -215,8 +228,8 @@ fn put_element_key(facts: &Facts, node: &Node, out: &mut Vec<Item>) -> Result<()
         ≡ entries out.old.items ++ keys_word Rule.Method (each_field facts.now node.now)
         (all_fields facts.now node.now)) }
 {
-    put_field(facts, node, "decorators", Way::Whole, out)?;
-    put_field(facts, node, "key", Way::Keyed, out)
+    put_field(facts, node, Field::Decorators, Way::Whole, out)?;
+    put_field(facts, node, Field::Key, Way::Keyed, out)
 }
 
 /// Puts the static fields and blocks of a class.
@@ -233,7 +246,7 @@ pub(crate) fn put_statics(
 {
     match rule {
         Rule::Bare => put_fields(facts, node.kind.rows(), &node.parts, Way::Statics, out),
-        Rule::ClassField(is_accessor) if node.flag("static") => {
+        Rule::ClassField(is_accessor) if node.flag(Field::Static) => {
             put_class_field(facts, node, true, is_accessor, out)
         }
         Rule::StaticBlock => put_block(facts, node, out),
@@ -255,7 +268,7 @@ pub(crate) fn put_instance_fields(
 {
     match rule {
         Rule::Bare => put_fields(facts, node.kind.rows(), &node.parts, Way::Fields, out),
-        Rule::ClassField(is_accessor) if !node.flag("static") => {
+        Rule::ClassField(is_accessor) if !node.flag(Field::Static) => {
             put_class_field(facts, node, false, is_accessor, out)
         }
         _ => Ok(()),
@@ -275,8 +288,8 @@ fn put_class_field(
         ≡ entries out.old.items ++ field_word is_static is_accessor (each_field facts.now node.now)) }
 {
     put_field_start(facts.memory(), is_static, is_accessor, out)?;
-    put_field(facts, node, "key", Way::KeyText, out)?;
-    put_field(facts, node, "value", Way::Whole, out)?;
+    put_field(facts, node, Field::Key, Way::KeyText, out)?;
+    put_field(facts, node, Field::Value, Way::Whole, out)?;
     put_lone(facts.memory(), ItemKind::Define, out)
 }
 
@@ -288,7 +301,7 @@ fn put_block(facts: &Facts, node: &Node, out: &mut Vec<Item>) -> Result<(), OutO
         (each_field facts.now node.now) (all_fields facts.now node.now)) }
 {
     if is_quiet(facts, node) {
-        return put_field(facts, node, "body", Way::Whole, out);
+        return put_field(facts, node, Field::Body, Way::Whole, out);
     }
     put_plain(facts, node, Way::Whole, out)
 }
@@ -307,7 +320,9 @@ pub(crate) fn put_methods(
 {
     match rule {
         Rule::Bare => put_fields(facts, node.kind.rows(), &node.parts, Way::Methods, out),
-        Rule::Method if !node.holds_text("kind", "constructor") => put_method(facts, node, out),
+        Rule::Method if !node.holds_text(Field::Kind, "constructor") => put_method(
+            facts, node, out,
+        ),
         _ => Ok(()),
     }
 }
@@ -319,10 +334,13 @@ fn put_method(facts: &Facts, node: &Node, out: &mut Vec<Item>) -> Result<(), Out
         ≡ entries out.old.items ++ method_word node.now.kind (docs_in node.now.parts.items)
         (each_field facts.now node.now)) }
 {
-    let details = vec![in facts.memory(); field_atom(node, "kind")?, field_atom(node, "static")?]?;
+    let details = vec![in facts.memory();
+        field_atom(node, Field::Kind)?,
+        field_atom(node, Field::Static)?,
+    ]?;
     put_start(node.kind, details, out)?;
-    put_field(facts, node, "key", Way::KeyText, out)?;
-    put_field(facts, node, "value", Way::Whole, out)?;
+    put_field(facts, node, Field::Key, Way::KeyText, out)?;
+    put_field(facts, node, Field::Value, Way::Whole, out)?;
     put_lone(facts.memory(), ItemKind::Close, out)
 }
 
@@ -340,7 +358,7 @@ pub(crate) fn put_constructor(
 {
     match rule {
         Rule::Bare => put_fields(facts, node.kind.rows(), &node.parts, Way::Constructor, out),
-        Rule::Method if node.holds_text("kind", "constructor") => {
+        Rule::Method if node.holds_text(Field::Kind, "constructor") => {
             put_constructor_node(facts, node, out)
         }
         _ => Ok(()),
@@ -355,8 +373,8 @@ fn put_constructor_node(facts: &Facts, node: &Node, out: &mut Vec<Item>) -> Resu
         (docs_in node.now.parts.items)) ∷ []) ++ (each_field facts.now node.now (codes "value") Way.Opened
         ++ lone ItemKind.Close))) }
 {
-    let details = vec![in facts.memory(); field_atom(node, "kind")?]?;
+    let details = vec![in facts.memory(); field_atom(node, Field::Kind)?]?;
     put_start(node.kind, details, out)?;
-    put_field(facts, node, "value", Way::Opened, out)?;
+    put_field(facts, node, Field::Value, Way::Opened, out)?;
     put_lone(facts.memory(), ItemKind::Close, out)
 }

@@ -16,6 +16,7 @@ use crate::word::put_field;
 use oxt_facts::facts::Facts;
 use oxt_facts::item::{Atom, Binding, Item, ItemKind};
 use oxt_facts::told::{MemberValue, ToldBlock, ToldMember};
+use oxt_grammar::field::Field;
 use oxt_grammar::kind::Kind;
 use oxt_names::constant::ConstantValue;
 use oxt_put::put::{first_atom, put_lone, put_owned, put_spelled, put_start};
@@ -54,7 +55,7 @@ pub(crate) fn put_enum(
         return put_field(
             facts,
             node,
-            "id",
+            Field::Id,
             Way::Bound(block_binding(block, exported), exported),
             out,
         );
@@ -99,7 +100,7 @@ fn put_filling(
 {
     put_object_of(facts.memory(), block, exported, out)?;
     put_entry_of(facts.memory(), block, out)?;
-    put_field(facts, node, "body", Way::Whole, out)?;
+    put_field(facts, node, Field::Body, Way::Whole, out)?;
     put_return(facts.memory(), block, out)?;
     put_lone(facts.memory(), ItemKind::Out, out)
 }
@@ -239,7 +240,7 @@ fn put_value(
     match &member.value {
         MemberValue::Constant(constant) => put_literal(facts.memory(), constant, out),
         MemberValue::Following(name) => put_following(facts.memory(), member, name, out),
-        MemberValue::Written => put_field(facts, node, "initializer", Way::Whole, out),
+        MemberValue::Written => put_field(facts, node, Field::Initializer, Way::Whole, out),
     }
 }
 

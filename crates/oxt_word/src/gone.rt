@@ -10,6 +10,7 @@ ghost use Rattle.oxt_put.specs.Details.{start};
 use crate::rule::Rule;
 use crate::way::Way;
 use oxt_facts::item::{Binding, Item, ItemKind};
+use oxt_grammar::field::Field;
 use oxt_grammar::kind::Kind;
 use oxt_put::put::{put_lone, put_start};
 use oxt_tree::ids::OutOfMemory;
@@ -22,16 +23,16 @@ pub fn is_gone(rule: Rule, node: &Node) -> bool
 {
     match rule {
         Rule::Erased => true,
-        Rule::EnumBlock => node.flag("declare"),
-        Rule::Variables => node.flag("declare"),
-        Rule::FunctionDeclaration => node.flag("declare"),
-        Rule::ClassDeclaration => node.flag("declare"),
-        Rule::ClassField(_) => node.flag("declare"),
-        Rule::Method => node.holds_kind("value", Kind::TSEmptyBodyFunctionExpression),
-        Rule::Import => node.holds_text("importKind", "type"),
-        Rule::Binds(Binding::Import) => node.holds_text("importKind", "type"),
-        Rule::ExportList => node.holds_text("exportKind", "type"),
-        Rule::ExportPart => node.holds_text("exportKind", "type"),
+        Rule::EnumBlock => node.flag(Field::Declare),
+        Rule::Variables => node.flag(Field::Declare),
+        Rule::FunctionDeclaration => node.flag(Field::Declare),
+        Rule::ClassDeclaration => node.flag(Field::Declare),
+        Rule::ClassField(_) => node.flag(Field::Declare),
+        Rule::Method => node.holds_kind(Field::Value, Kind::TSEmptyBodyFunctionExpression),
+        Rule::Import => node.holds_text(Field::ImportKind, "type"),
+        Rule::Binds(Binding::Import) => node.holds_text(Field::ImportKind, "type"),
+        Rule::ExportList => node.holds_text(Field::ExportKind, "type"),
+        Rule::ExportPart => node.holds_text(Field::ExportKind, "type"),
         Rule::ExportDefault => has_erased_default(node),
         _ => false,
     }
@@ -42,7 +43,7 @@ fn has_erased_default(node: &Node) -> bool
     ensures { result ≡ is_mere_declaration
         (named (codes "declaration") node.now.kind (docs_in node.now.parts.items)) }
 {
-    match node.field("declaration") {
+    match node.field(Field::Declaration) {
         Some(declaration) => declaration.is_mere_declaration(),
         None => false,
     }

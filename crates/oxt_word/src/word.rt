@@ -10,6 +10,7 @@ ghost use Rattle.oxt_word.specs.RuleOf.{rule_of};
 ghost use Rattle.oxt_word.specs.Ways.{bound_word, entered_word, exported_word, target_word};
 ghost use Rattle.oxt_word.specs.Whole.{arrow_word, assignment_word, body_word, call_word, declarator_word, export_list_word, function_word, get_word, if_word, import_word, listless_word, logical_word, object_word, sequence_word, variables_word, whole_word};
 ghost use Rattle.oxt_word.specs.Word.{all_fields, each_field, each_said, fields_said, last_said, list_word, node_word, own_word, said, turns_said, way_word, word};
+ghost use Rattle.oxt_grammar.specs.Keys.{key_of};
 
 use crate::class::{
     put_class, put_class_expression, put_constructor, put_instance_fields, put_key_text, put_keyed,
@@ -31,6 +32,7 @@ use oxt_forms::forms::{
     binding_of, is_called, is_found, is_found_made, is_long, is_put, lists_nothing,
 };
 use oxt_forms::made::{is_keep, is_silent};
+use oxt_grammar::field::Field;
 use oxt_grammar::holds::Row;
 use oxt_grammar::kind::Kind;
 use oxt_put::put::{
@@ -237,14 +239,14 @@ fn put_last(facts: &Facts, parts: &[Part], way: Way, out: &mut Vec<Item>) -> Res
 pub(crate) fn put_field(
     facts: &Facts,
     node: &Node,
-    name: &str,
+    field: Field,
     way: Way,
     out: &mut Vec<Item>,
 ) -> Result<(), OutOfMemory>
     ensures { OnOk result (entries out.new.items
-        ≡ entries out.old.items ++ each_field facts.now node.now name.now way) }
+        ≡ entries out.old.items ++ each_field facts.now node.now (key_of field) way) }
 {
-    match place_of(node.kind.rows(), name) {
+    match place_of(node.kind.rows(), field) {
         Some(place) => match node.parts.get(place) {
             Some(part) => put_part(facts, part, way, out),
             None => put_lone(facts.memory(), ItemKind::Nil, out),
@@ -327,7 +329,7 @@ pub(crate) fn put_whole(
         Rule::Bare => put_fields(facts, node.kind.rows(), &node.parts, Way::Whole, out),
         Rule::Program => put_program(facts, node, out),
         Rule::Parameters => put_fields(facts, node.kind.rows(), &node.parts, Way::Whole, out),
-        Rule::Transparent => put_field(facts, node, "expression", Way::Whole, out),
+        Rule::Transparent => put_field(facts, node, Field::Expression, Way::Whole, out),
         Rule::Erased => Ok(()),
         Rule::Name => put_name(facts, node, out),
         Rule::Spelled(kind) => put_first(facts.memory(), kind, node, out),
@@ -335,8 +337,8 @@ pub(crate) fn put_whole(
         Rule::PrivateName => put_private(facts, node, out),
         Rule::This => put_lone(facts.memory(), ItemKind::This, out),
         Rule::Number => put_number(facts.memory(), node, out),
-        Rule::StaticMember => put_get(facts, node, "property", Way::KeyText, out),
-        Rule::ComputedMember => put_get(facts, node, "expression", Way::Whole, out),
+        Rule::StaticMember => put_get(facts, node, Field::Property, Way::KeyText, out),
+        Rule::ComputedMember => put_get(facts, node, Field::Expression, Way::Whole, out),
         Rule::Assignment => put_assignment(facts, node, out),
         Rule::Statement => put_statement(facts, node, out),
         Rule::Sequence => put_sequence(facts, node, out),
@@ -354,7 +356,7 @@ pub(crate) fn put_whole(
         Rule::If => put_if(facts, node, out),
         Rule::Loop => put_plain(facts, node, Way::Branch, out),
         Rule::Import => put_import(facts, node, out),
-        Rule::Export => put_field(facts, node, "declaration", Way::Exported, out),
+        Rule::Export => put_field(facts, node, Field::Declaration, Way::Exported, out),
         Rule::ExportList => put_export_list(facts, node, out),
         _ => put_plain(facts, node, Way::Whole, out),
     }
@@ -367,7 +369,7 @@ fn put_program(facts: &Facts, node: &Node, out: &mut Vec<Item>) -> Result<(), Ou
         ≡ entries out.old.items ++ whole_word facts.now Rule.Program node.now.kind node.now.id.0
         (docs_in node.now.parts.items) (each_field facts.now node.now) (all_fields facts.now node.now)) }
 {
-    if facts.is_source() && node.holds_text("lang", "dts") {
+    if facts.is_source() && node.holds_text(Field::Lang, "dts") {
         return Ok(());
     }
     put_hash(facts.memory(), node, out)?;
@@ -383,7 +385,7 @@ fn put_statement(facts: &Facts, node: &Node, out: &mut Vec<Item>) -> Result<(), 
         (docs_in node.now.parts.items) (each_field facts.now node.now) (all_fields facts.now node.now)) }
 {
     let from = out.len();
-    put_field(facts, node, "expression", Way::Whole, out)?;
+    put_field(facts, node, Field::Expression, Way::Whole, out)?;
     put_dropped(facts.memory(), from, out)
 }
 
@@ -392,20 +394,20 @@ fn put_statement(facts: &Facts, node: &Node, out: &mut Vec<Item>) -> Result<(), 
 fn put_get(
     facts: &Facts,
     node: &Node,
-    key: &str,
+    key: Field,
     way: Way,
     out: &mut Vec<Item>,
 ) -> Result<(), OutOfMemory>
     ensures { OnOk result (entries out.new.items
-        ≡ entries out.old.items ++ get_word key.now way node.now.kind (docs_in node.now.parts.items)
+        ≡ entries out.old.items ++ get_word (key_of key) way node.now.kind (docs_in node.now.parts.items)
         (each_field facts.now node.now)) }
 {
-    put_field(facts, node, "object", Way::Whole, out)?;
+    put_field(facts, node, Field::Object, Way::Whole, out)?;
     put_field(facts, node, key, way, out)?;
     put_spelled(
         facts.memory(),
         ItemKind::Get,
-        Atom::Flag(node.flag("optional")),
+        Atom::Flag(node.flag(Field::Optional)),
         out,
     )
 }
@@ -418,12 +420,12 @@ fn put_assignment(facts: &Facts, node: &Node, out: &mut Vec<Item>) -> Result<(),
         (each_field facts.now node.now) (all_fields facts.now node.now)) }
 {
     if is_keep(facts, node) {
-        put_field(facts, node, "right", Way::Whole, out)?;
+        put_field(facts, node, Field::Right, Way::Whole, out)?;
         return put_spelled(facts.memory(), ItemKind::Keep, target_atom(node)?, out);
     }
     if is_put(node) {
-        put_field(facts, node, "left", Way::Target, out)?;
-        put_field(facts, node, "right", Way::Whole, out)?;
+        put_field(facts, node, Field::Left, Way::Target, out)?;
+        put_field(facts, node, Field::Right, Way::Whole, out)?;
         return put_lone(facts.memory(), ItemKind::Put, out);
     }
     put_plain(facts, node, Way::Whole, out)
@@ -437,7 +439,7 @@ fn put_sequence(facts: &Facts, node: &Node, out: &mut Vec<Item>) -> Result<(), O
         (each_field facts.now node.now) (all_fields facts.now node.now)) }
 {
     if is_long(node) {
-        return put_field(facts, node, "expressions", Way::InTurn, out);
+        return put_field(facts, node, Field::Expressions, Way::InTurn, out);
     }
     put_plain(facts, node, Way::Whole, out)
 }
@@ -450,7 +452,7 @@ fn put_arrow(facts: &Facts, node: &Node, out: &mut Vec<Item>) -> Result<(), OutO
         (each_field facts.now node.now)) }
 {
     put_open(facts.memory(), node, out)?;
-    put_field(facts, node, "params", Way::Whole, out)?;
+    put_field(facts, node, Field::Params, Way::Whole, out)?;
     put_body(facts, node, out)?;
     put_lone(facts.memory(), ItemKind::Close, out)
 }
@@ -462,11 +464,11 @@ fn put_body(facts: &Facts, node: &Node, out: &mut Vec<Item>) -> Result<(), OutOf
         ≡ entries out.old.items ++ body_word node.now.kind (docs_in node.now.parts.items)
         (each_field facts.now node.now)) }
 {
-    if node.holds_kind("body", Kind::FunctionBody) {
-        return put_field(facts, node, "body", Way::Whole, out);
+    if node.holds_kind(Field::Body, Kind::FunctionBody) {
+        return put_field(facts, node, Field::Body, Way::Whole, out);
     }
     put_start(Kind::ReturnStatement, Vec::new(facts.memory()), out)?;
-    put_field(facts, node, "body", Way::Whole, out)?;
+    put_field(facts, node, Field::Body, Way::Whole, out)?;
     put_lone(facts.memory(), ItemKind::Close, out)
 }
 
@@ -478,8 +480,14 @@ fn put_call(facts: &Facts, node: &Node, out: &mut Vec<Item>) -> Result<(), OutOf
         (each_field facts.now node.now) (all_fields facts.now node.now)) }
 {
     if is_called(node) {
-        put_field(facts, node, "arguments", Way::Whole, out)?;
-        return put_field(facts, node, "callee", Way::Entered(node.flag("pure")), out);
+        put_field(facts, node, Field::Arguments, Way::Whole, out)?;
+        return put_field(
+            facts,
+            node,
+            Field::Callee,
+            Way::Entered(node.flag(Field::Pure)),
+            out,
+        );
     }
     put_plain(facts, node, Way::Whole, out)
 }
@@ -491,7 +499,7 @@ fn put_object(facts: &Facts, node: &Node, out: &mut Vec<Item>) -> Result<(), Out
         ≡ entries out.old.items ++ object_word node.now.kind (docs_in node.now.parts.items)
         (all_fields facts.now node.now)) }
 {
-    if lists_nothing(node, "properties") {
+    if lists_nothing(node, Field::Properties) {
         return put_lone(facts.memory(), ItemKind::New, out);
     }
     put_plain(facts, node, Way::Whole, out)
@@ -505,15 +513,15 @@ fn put_logical(facts: &Facts, node: &Node, out: &mut Vec<Item>) -> Result<(), Ou
         (each_field facts.now node.now) (all_fields facts.now node.now)) }
 {
     if is_found(facts, node) {
-        put_field(facts, node, "left", Way::Whole, out)?;
+        put_field(facts, node, Field::Left, Way::Whole, out)?;
         return put_lone(facts.memory(), ItemKind::Found, out);
     }
     if is_found_made(facts, node) {
-        put_field(facts, node, "left", Way::Whole, out)?;
+        put_field(facts, node, Field::Left, Way::Whole, out)?;
         return put_lone(facts.memory(), ItemKind::FoundMade, out);
     }
     if is_found_made_on(facts, node) {
-        put_field(facts, node, "left", Way::Whole, out)?;
+        put_field(facts, node, Field::Left, Way::Whole, out)?;
         put_base(facts.memory(), node, out)?;
         return put_lone(facts.memory(), ItemKind::FoundMadeOn, out);
     }
@@ -532,11 +540,11 @@ fn put_variables(
         ≡ entries out.old.items ++ variables_word exported node.now.kind (docs_in node.now.parts.items)
         (each_field facts.now node.now) (all_fields facts.now node.now)) }
 {
-    if lists_nothing(node, "declarations") {
+    if lists_nothing(node, Field::Declarations) {
         return put_plain(facts, node, Way::Whole, out);
     }
     let way = Way::Bound(binding_of(node), exported);
-    put_field(facts, node, "declarations", way, out)
+    put_field(facts, node, Field::Declarations, way, out)
 }
 
 /// Puts a declarator: its value, which is set, and its pattern; nothing if a made name is declared without a
@@ -556,12 +564,12 @@ fn put_declarator(
     if is_silent(facts, node) {
         return Ok(());
     }
-    if node.lacks("init") {
-        return put_field(facts, node, "id", Way::Bound(binding, exported), out);
+    if node.lacks(Field::Init) {
+        return put_field(facts, node, Field::Id, Way::Bound(binding, exported), out);
     }
-    put_field(facts, node, "init", Way::Whole, out)?;
+    put_field(facts, node, Field::Init, Way::Whole, out)?;
     put_lone(facts.memory(), ItemKind::Set, out)?;
-    put_field(facts, node, "id", Way::Bound(binding, exported), out)
+    put_field(facts, node, Field::Id, Way::Bound(binding, exported), out)
 }
 
 /// Puts a declaration of a function, and then its name, which is exported or not.
@@ -577,13 +585,13 @@ fn put_function(
         (each_field facts.now node.now)) }
 {
     put_open(facts.memory(), node, out)?;
-    put_field(facts, node, "params", Way::Whole, out)?;
-    put_field(facts, node, "body", Way::Whole, out)?;
+    put_field(facts, node, Field::Params, Way::Whole, out)?;
+    put_field(facts, node, Field::Body, Way::Whole, out)?;
     put_lone(facts.memory(), ItemKind::Close, out)?;
     put_field(
         facts,
         node,
-        "id",
+        Field::Id,
         Way::Bound(Binding::Function, exported),
         out,
     )
@@ -597,9 +605,9 @@ fn put_if(facts: &Facts, node: &Node, out: &mut Vec<Item>) -> Result<(), OutOfMe
         (each_field facts.now node.now)) }
 {
     put_open(facts.memory(), node, out)?;
-    put_field(facts, node, "test", Way::Whole, out)?;
-    put_field(facts, node, "consequent", Way::Branch, out)?;
-    put_field(facts, node, "alternate", Way::Alternate, out)?;
+    put_field(facts, node, Field::Test, Way::Whole, out)?;
+    put_field(facts, node, Field::Consequent, Way::Branch, out)?;
+    put_field(facts, node, Field::Alternate, Way::Alternate, out)?;
     put_lone(facts.memory(), ItemKind::Close, out)
 }
 
@@ -610,7 +618,7 @@ fn put_import(facts: &Facts, node: &Node, out: &mut Vec<Item>) -> Result<(), Out
         ≡ entries out.old.items ++ import_word node.now.kind (docs_in node.now.parts.items)
         (each_field facts.now node.now) (all_fields facts.now node.now)) }
 {
-    if lists_nothing(node, "specifiers") {
+    if lists_nothing(node, Field::Specifiers) {
         return put_listless(facts, node, out);
     }
     put_plain(facts, node, Way::Whole, out)
@@ -625,8 +633,8 @@ fn put_listless(facts: &Facts, node: &Node, out: &mut Vec<Item>) -> Result<(), O
 {
     put_open(facts.memory(), node, out)?;
     put_lone(facts.memory(), ItemKind::Nil, out)?;
-    put_field(facts, node, "source", Way::Whole, out)?;
-    put_field(facts, node, "withClause", Way::Whole, out)?;
+    put_field(facts, node, Field::Source, Way::Whole, out)?;
+    put_field(facts, node, Field::WithClause, Way::Whole, out)?;
     put_lone(facts.memory(), ItemKind::Close, out)
 }
 
@@ -637,7 +645,7 @@ fn put_export_list(facts: &Facts, node: &Node, out: &mut Vec<Item>) -> Result<()
         ≡ entries out.old.items ++ export_list_word node.now.kind (docs_in node.now.parts.items)
         (all_fields facts.now node.now)) }
 {
-    if lists_nothing(node, "specifiers") {
+    if lists_nothing(node, Field::Specifiers) {
         return Ok(());
     }
     put_plain(facts, node, Way::Whole, out)
@@ -676,10 +684,10 @@ fn put_target(
         (each_field facts.now node.now) (all_fields facts.now node.now)) }
 {
     match rule {
-        Rule::Transparent => put_field(facts, node, "expression", Way::Target, out),
-        Rule::StaticMember => put_key(facts, node, "property", Way::KeyText, out),
-        Rule::ComputedMember => put_key(facts, node, "expression", Way::Whole, out),
-        Rule::PrivateMember => put_key(facts, node, "field", Way::Whole, out),
+        Rule::Transparent => put_field(facts, node, Field::Expression, Way::Target, out),
+        Rule::StaticMember => put_key(facts, node, Field::Property, Way::KeyText, out),
+        Rule::ComputedMember => put_key(facts, node, Field::Expression, Way::Whole, out),
+        Rule::PrivateMember => put_key(facts, node, Field::Field, Way::Whole, out),
         _ => put_whole(facts, rule, node, out),
     }
 }
@@ -689,15 +697,15 @@ fn put_target(
 fn put_key(
     facts: &Facts,
     node: &Node,
-    key: &str,
+    key: Field,
     way: Way,
     out: &mut Vec<Item>,
 ) -> Result<(), OutOfMemory>
     ensures { OnOk result (entries out.new.items
         ≡ entries out.old.items ++ (each_field facts.now node.now (codes "object") Way.Whole
-        ++ each_field facts.now node.now key.now way)) }
+        ++ each_field facts.now node.now (key_of key) way)) }
 {
-    put_field(facts, node, "object", Way::Whole, out)?;
+    put_field(facts, node, Field::Object, Way::Whole, out)?;
     put_field(facts, node, key, way, out)
 }
 
@@ -737,10 +745,10 @@ fn put_entered(
         (docs_in node.now.parts.items) (each_field facts.now node.now) (all_fields facts.now node.now)) }
 {
     match rule {
-        Rule::Transparent => put_field(facts, node, "expression", Way::Entered(pure), out),
+        Rule::Transparent => put_field(facts, node, Field::Expression, Way::Entered(pure), out),
         Rule::FunctionExpression => put_entry(facts, pure, node, out),
-        Rule::Parameters => put_field(facts, node, "items", Way::Entered(pure), out),
-        Rule::Parameter => put_field(facts, node, "pattern", Way::Entered(pure), out),
+        Rule::Parameters => put_field(facts, node, Field::Items, Way::Entered(pure), out),
+        Rule::Parameter => put_field(facts, node, Field::Pattern, Way::Entered(pure), out),
         Rule::Identifier => put_in(facts, pure, node, out),
         _ => put_whole(facts, rule, node, out),
     }
@@ -753,7 +761,7 @@ fn put_entry(facts: &Facts, pure: bool, node: &Node, out: &mut Vec<Item>) -> Res
         ≡ entries out.old.items ++ entered_word facts.now pure Rule.FunctionExpression node.now.kind node.now.id.0
         (docs_in node.now.parts.items) (each_field facts.now node.now) (all_fields facts.now node.now)) }
 {
-    put_field(facts, node, "params", Way::Entered(pure), out)?;
-    put_field(facts, node, "body", Way::Whole, out)?;
+    put_field(facts, node, Field::Params, Way::Entered(pure), out)?;
+    put_field(facts, node, Field::Body, Way::Whole, out)?;
     put_lone(facts.memory(), ItemKind::Out, out)
 }

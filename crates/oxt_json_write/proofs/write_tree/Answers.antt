@@ -1,14 +1,22 @@
-use Rattle.std.proofs.Common.{subst}
-use Rattle.oxt_json_write.proofs.Floats.{text_written}
-use Rattle.oxt_json_write.proofs.write_tree.Goals as goal
-use Rattle.oxt_json_write.specs.Spelled.{ReadsBack}
+use Rattle.std.proofs.Common.{◌∙◌}
+use Rattle.oxt_json_write.proofs.Whole.{printed, is_text, is_in_order, is_read_back}
 use Rattle.oxt_tree.specs.View.{node_doc}
-use Rattle.serde_json.specs.Written.{IsInOrder}
+use Rattle.oxt_json_write.proofs.write_tree.Goals as goal
 
-pub returns : goal.returns
-returns c = record {
-  text = text_written (node_doc c.args.program.now.root) _ _ c.in_ok-value.ensures c.in_ok-to_vec.ensures.text;
-  utf8 = c.in_ok-to_vec.ensures.utf8;
-  in_order = subst (IsInOrder c.in_ok-to_vec.field-0.items) c.in_ok-value.ensures c.in_ok-to_vec.ensures.order;
-  reads_back = subst (ReadsBack c.in_ok-to_vec.field-0.items) c.in_ok-value.ensures c.in_ok-to_vec.ensures.reads_back;
-}
+pub returns-clause-text : goal.returns-clause-text
+returns-clause-text c =
+    let wrote = c.in_ok-write_node.ensures in
+    let same = printed c.into_inner.result.items _ _ _ _ (wrote.before ∙ (c.new-out.ensures.before ∙ c.new.ensures.items)) c.new-out.ensures.tokens wrote.tokens c.into_inner.ensures.items c.into_inner.ensures.reads_back in
+    is_text (node_doc c.args.program.now.root) _ same.0
+
+pub returns-clause-in_order : goal.returns-clause-in_order
+returns-clause-in_order c =
+    let wrote = c.in_ok-write_node.ensures in
+    let same = printed c.into_inner.result.items _ _ _ _ (wrote.before ∙ (c.new-out.ensures.before ∙ c.new.ensures.items)) c.new-out.ensures.tokens wrote.tokens c.into_inner.ensures.items c.into_inner.ensures.reads_back in
+    is_in_order (node_doc c.args.program.now.root) _ same.1 wrote.numbers
+
+pub returns-clause-reads_back : goal.returns-clause-reads_back
+returns-clause-reads_back c =
+    let wrote = c.in_ok-write_node.ensures in
+    let same = printed c.into_inner.result.items _ _ _ _ (wrote.before ∙ (c.new-out.ensures.before ∙ c.new.ensures.items)) c.new-out.ensures.tokens wrote.tokens c.into_inner.ensures.items c.into_inner.ensures.reads_back in
+    is_read_back (node_doc c.args.program.now.root) _ same.1 wrote.numbers

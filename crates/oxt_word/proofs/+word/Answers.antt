@@ -1,4 +1,5 @@
 use Rattle.std.proofs.Common.{◌≡◌, ◌∙◌, ◌++◌, refl, sym, ap, subst, arith, OnOk}
+use Rattle.oxt_grammar.specs.Keys.{key_of}
 use Rattle.oxt_word.proofs.Loops.{field_none, field_past, field_some, no_more_rows, one_turn}
 use Rattle.oxt_facts.specs.Entry.{entries}
 use Rattle.oxt_tree.specs.View.{docs_in}
@@ -19,17 +20,17 @@ word::put_node-returns-in-None t c =
 
 pub word::put_field-returns-in-Some-get : goal.word::put_field-returns-in-Some-get
 word::put_field-returns-in-Some-get t c =
-    let same = field_some c.args.facts.now c.args.name.now c.args.node.now.kind c.rows.result.now c.args.node.now.parts.items c.deref.result.now c.in-Some.place c.in-Some-get.part.now c.args.way c.rows.ensures (sym c.in-Some.is ∙ c.place_of.ensures) c.deref.ensures.value c.in-Some-get.ensures.lookup.3.0 c.in-Some-get.ensures.lookup.1 in
+    let same = field_some c.args.facts.now (key_of c.args.field) c.args.node.now.kind c.rows.result.now c.args.node.now.parts.items c.deref.result.now c.in-Some.place c.in-Some-get.part.now c.args.way c.rows.ensures (sym c.in-Some.is ∙ c.place_of.ensures) c.deref.ensures.value c.in-Some-get.ensures.lookup.3.0 c.in-Some-get.ensures.lookup.1 in
     subst (λ v. OnOk c.put_part.result (entries c.put_part.new.out.items ≡ entries c.args.out.now.items ++ v)) same c.put_part.ensures
 
 pub word::put_field-returns-in-None-get : goal.word::put_field-returns-in-None-get
 word::put_field-returns-in-None-get t c =
-    let same = field_past c.args.facts.now c.args.name.now c.args.node.now.kind c.rows.result.now c.args.node.now.parts.items c.deref.result.now c.in-Some.place c.args.way c.rows.ensures (sym c.in-Some.is ∙ c.place_of.ensures) c.deref.ensures.value c.in-None-get.ensures.lookup.3 in
+    let same = field_past c.args.facts.now (key_of c.args.field) c.args.node.now.kind c.rows.result.now c.args.node.now.parts.items c.deref.result.now c.in-Some.place c.args.way c.rows.ensures (sym c.in-Some.is ∙ c.place_of.ensures) c.deref.ensures.value c.in-None-get.ensures.lookup.3 in
     subst (λ v. OnOk c.put_lone.result (entries c.put_lone.new.out.items ≡ entries c.args.out.now.items ++ v)) same c.put_lone.ensures
 
 pub word::put_field-returns-in-None : goal.word::put_field-returns-in-None
 word::put_field-returns-in-None t c =
-    let same = field_none c.args.facts.now c.args.name.now c.args.node.now.kind c.rows.result.now c.args.node.now.parts.items c.args.way c.rows.ensures (sym c.in-None.is ∙ c.place_of.ensures) in
+    let same = field_none c.args.facts.now (key_of c.args.field) c.args.node.now.kind c.rows.result.now c.args.node.now.parts.items c.args.way c.rows.ensures (sym c.in-None.is ∙ c.place_of.ensures) in
     subst (λ v. OnOk c.put_lone-in-None.result (entries c.put_lone-in-None.new.out.items ≡ entries c.args.out.now.items ++ v)) same c.put_lone-in-None.ensures
 
 pub word::put_fields-returns : goal.word::put_fields-returns

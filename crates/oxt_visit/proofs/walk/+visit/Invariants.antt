@@ -1,8 +1,10 @@
--- What is read is as it was, and the parts from the place on weigh no more than all did.
+-- What is read is as it was, the parts from the place on weigh no more than all did, and they are left to walk.
 use Rattle.std.proofs.Common.{◌≡◌, ◌≤◌, ◌+◌, ◌*◌, length}
 use Rattle.oxt_tree.specs.View.{docs_in, node_doc, part_doc}
+use Rattle.oxt_visit.proofs.Going.{ElementsGo, FieldsGo}
 use Rattle.oxt_visit.proofs.Rests.{rest_weighs}
 use Rattle.oxt_visit.specs.Reading.{readings}
+use Rattle.oxt_visit.specs.Walks.{Keeps}
 use Rattle.oxt_visit.specs.Weight.{weight, weights}
 use Rattle.oxt_visit.proofs.walk.+visit.Given as goal
 
@@ -12,6 +14,7 @@ invariant-visit_fields-loop-i g l = record {
   steady : g.V.VisitJsMut.spare l.visitor ≡ g.V.VisitJsMut.spare l.initial.visitor;
   len : length l.parts.items ≡ length l.initial.parts.items;
   left : rest_weighs (g.V.VisitJsMut.spare l.initial.visitor) l.parts.items l.i ≤ weights (g.V.VisitJsMut.spare l.initial.visitor) (docs_in l.initial.parts.items);
+  called : FieldsGo g.V.VisitJsMut.trace (Keeps g.V.VisitJsMut.read) (g.V.VisitJsMut.log l.initial.visitor) (g.V.VisitJsMut.log l.visitor) l.rows (docs_in l.initial.parts.items) l.i l.parts.items;
 }
 
 abbrev pub invariant-visit_elements-loop-i : goal.invariant-visit_elements-loop-i
@@ -20,6 +23,7 @@ invariant-visit_elements-loop-i g l = record {
   steady : g.V.VisitJsMut.spare l.visitor ≡ g.V.VisitJsMut.spare l.initial.visitor;
   len : length l.parts.items ≡ length l.initial.parts.items;
   left : rest_weighs (g.V.VisitJsMut.spare l.initial.visitor) l.parts.items l.i ≤ weights (g.V.VisitJsMut.spare l.initial.visitor) (docs_in l.initial.parts.items);
+  called : ElementsGo g.V.VisitJsMut.trace (Keeps g.V.VisitJsMut.read) (g.V.VisitJsMut.log l.initial.visitor) (g.V.VisitJsMut.log l.visitor) l.place (docs_in l.initial.parts.items) l.i l.parts.items;
 }
 
 abbrev pub decreases-visit_inside : goal.decreases-visit_inside
