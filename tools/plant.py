@@ -77,7 +77,7 @@ ENUM_BUGS = [
     (f"{FIRST}.arguments.0", NEW_OBJECT),
     (f"{EXPORTED}.arguments.0", name("X")),
     (f"{FIRST}.callee.params.items.0.pattern.name", text("X")),
-    (f"{IN_FIRST}.0.expression", 'inside(inside(old, "left"), "expression")'),
+    (f"{IN_FIRST}.0.expression", 'inside(inside(old, Field::Left), Field::Expression)'),
     (f"{IN_FIRST}.0.expression.left.expression.right.value", "Part::Number(1)"),
     (f"{IN_FIRST}.1.expression", 'looked_up(alloc, old, ids)?'),
     (f"{IN_FIRST}.1.expression.left.expression.value", text("c")),
@@ -87,13 +87,13 @@ ENUM_BUGS = [
     (IN_FIRST, "without_last(old)"),
     (IN_EXPORTED, "without_first(old)"),
     (IN_EXPORTED, "first_later(old)?"),
-    ("body.1", 'inside(old, "declaration")'),
+    ("body.1", 'inside(old, Field::Declaration)'),
     ("body.2", "declared(alloc, old, ids)?"),
-    ("body.2.expression", 'inside(old, "right")'),
+    ("body.2.expression", 'inside(old, Field::Right)'),
     ("body.2.expression.left.name", text("A")),
     ("body.2.expression.right.arguments.0", NEW_OBJECT),
     ("body.3.expression.arguments.0.value", "Part::Number(1)"),
-    ("body.3.expression.arguments.1", 'inside(old, "argument")'),
+    ("body.3.expression.arguments.1", 'inside(old, Field::Argument)'),
     ("body.3.expression.arguments.2.value", text("m")),
     ("body.4.body", "without_first(old)"),
     ("body.5.declarations.0.init.properties.0.value.value", "Part::Number(1)"),
@@ -101,16 +101,16 @@ ENUM_BUGS = [
 
 # What they are written with.
 HELPERS = """
-fn field<'a>(node: &'a mut Node, name: &str) -> &'a mut Part {
-    match place_of(node.kind.rows(), name) { Some(place) => &mut node.parts[place], None => unreachable!() }
+fn field<'a>(node: &'a mut Node, field: Field) -> &'a mut Part {
+    match place_of(node.kind.rows(), field) { Some(place) => &mut node.parts[place], None => unreachable!() }
 }
-fn child<'a>(part: &'a mut Part, name: &str) -> &'a mut Part {
-    match part { Part::Node(node) => field(node, name), _ => unreachable!() }
+fn child<'a>(part: &'a mut Part, of: Field) -> &'a mut Part {
+    match part { Part::Node(node) => field(node, of), _ => unreachable!() }
 }
 fn item<'a>(part: &'a mut Part, place: usize) -> &'a mut Part {
     match part { Part::List(items) => &mut items[place], _ => unreachable!() }
 }
-fn inside(part: Part, name: &str) -> Part { let mut part = part; child(&mut part, name).take() }
+fn inside(part: Part, of: Field) -> Part { let mut part = part; child(&mut part, of).take() }
 fn node_in(part: Part) -> Node { match part { Part::Node(node) => node, _ => unreachable!() } }
 fn without_last(part: Part) -> Part {
     match part { Part::List(mut items) => { let _last = items.pop(); Part::List(items) } other => other }
@@ -131,12 +131,13 @@ fn looked_up(alloc: Global, put: Part, ids: &mut NodeIds) -> Result<Part, OutOfM
     Ok(Part::Node(assignment(alloc, target, text, ids)?))
 }
 fn declared(alloc: Global, put: Part, ids: &mut NodeIds) -> Result<Part, OutOfMemory> {
-    let value = node_in(inside(inside(put, "expression"), "right"));
+    let value = node_in(inside(inside(put, Field::Expression), Field::Right));
     Ok(Part::Node(enum_declaration(alloc, &Name::new(alloc, "X")?, true, value, ids)?))
 }
 """
 IMPORTS = """use crate::block::enum_declaration;
 use crate::nodes::{assignment, computed, empty_object, reference, string_literal};
+use oxt_grammar::field::Field;
 use oxt_grammar::word::Word;
 use oxt_tree::fields::place_of;
 use oxt_tree::ids::NodeIds;
@@ -177,10 +178,15 @@ def planted_eraser(source):
 def place_of(path):
     """The place in the tree, as the program reaches it."""
     first, *steps = path.split(".")
-    place = f'field(node, "{first}")'
+    place = f"field(node, {variant(first)})"
     for step in steps:
-        place = f"item({place}, {step})" if step.isdigit() else f'child({place}, "{step}")'
+        place = f"item({place}, {step})" if step.isdigit() else f"child({place}, {variant(step)})"
     return place
+
+
+def variant(field):
+    """What code calls the field of that name."""
+    return f"Field::{field[:1].upper()}{field[1:]}"
 
 
 def planted_enums(source):
