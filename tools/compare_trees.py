@@ -6,7 +6,7 @@
 
 ORACLE is the folder of the reading, a Python package `oxtref` that is no part of this repository. OXT is the built
 program `oxt`. `--flags="WORD .."` gives both of them these flags, and `--some-flags` gives them for each tree some of the
-flags without a value, by its name. Trees with a form that is not built yet are counted and passed over; a tree that is not
+flags, by its name. Trees with a form that is not built yet are counted and passed over; a tree that is not
 certified differs.
 Prints a line for each tree that differs, then the counts. The status is 1 if there is a difference, and else 0.
 """
@@ -18,7 +18,9 @@ import sys
 import trees
 from trees import Differences, words_and_cases
 
-FLAGS = ("--only-remove-type-imports", "--optimize-enums", "--optimize-const-enums")
+FLAGS = ("--only-remove-type-imports", "--optimize-enums", "--optimize-const-enums", "--no-namespaces")
+# Flags with a value, with those that are tried.
+CHOICES = {"--module": ("commonjs", "esm"), "--rewrite-extensions": ("rewrite", "remove")}
 
 
 class Reading(trees.Reading):
@@ -49,7 +51,11 @@ def flags_by_name():
 
     def some_flags(name):
         chance = random.Random(name)
-        return [flag for flag in FLAGS if chance.random() < 0.5]
+        words = [flag for flag in FLAGS if chance.random() < 0.5]
+        for flag, values in CHOICES.items():
+            if chance.random() < 0.5:
+                words += [flag, chance.choice(values)]
+        return words
 
     return some_flags
 

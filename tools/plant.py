@@ -4,8 +4,9 @@ tree: each has to end in `uncertified`, with nothing written. Nothing is proved 
     python3 tools/plant.py
 
 The number of the bug is where the program's span starts, so that one build serves for all; 0 plants none. Bugs of the pass
-that erases types stand in place of one of its hooks, on examples/forms.json. Those of the pass that lowers enums leave out
-one of its hooks, or put something else at one place of what it has made, on examples/enums.json."""
+that erases types stand in place of one of its hooks, on examples/forms.json. Those of the other passes leave out one of their
+hooks, or put something else at one place of what they have made: for enums on examples/enums.json, for namespaces, modules
+and the extensions in their names on examples/namespaces.json."""
 import json
 import re
 import shutil
@@ -15,7 +16,9 @@ import tempfile
 from pathlib import Path
 
 TOP = Path(__file__).resolve().parent.parent
-FLAGS = ["--optimize-enums", "--optimize-const-enums"]
+FLAGS = ["--optimize-enums", "--optimize-const-enums", "--module=commonjs", "--rewrite-extensions=rewrite"]
+ENUMS, NAMESPACES = "crates/oxt_lower/src/pass.rt", "crates/oxt_lower/src/namespace.rt"
+MODULES, EXTENSIONS = "crates/oxt_erase/src/module.rt", "crates/oxt_erase/src/extensions.rt"
 NOTHING = "{}"
 GONE = "Part::List(Vec::new(*node.parts.allocator()))"
 
@@ -51,8 +54,16 @@ ERASER_BUGS = [
     ("catch_parameter", NOTHING),
 ]
 
-# Hooks of the pass that lowers enums that do nothing: nothing is lowered, nothing inlined, nothing dropped.
-LEFT_OUT = ["EnterStatement", "EnterExpression", "ExitStatements"]
+# Hooks of a pass that do nothing: nothing is lowered, nothing inlined, nothing dropped.
+LEFT_OUT_OF_ENUMS = [(ENUMS, "EnterStatement"), (ENUMS, "EnterExpression"), (ENUMS, "ExitStatements")]
+LEFT_OUT_OF_MODULES = [
+    (NAMESPACES, "EnterProgram"),
+    (MODULES, "EnterStatement"),
+    (MODULES, "EnterDeclaration"),
+    (EXTENSIONS, "EnterImportDeclaration"),
+    (EXTENSIONS, "EnterExportAllDeclaration"),
+    (EXTENSIONS, "EnterImportExpression"),
+]
 
 # The calls of a first block and of an exported one, and the statements in their functions.
 FIRST, EXPORTED = "body.0.declarations.0.init", "body.1.declaration.declarations.0.init"
@@ -99,6 +110,49 @@ ENUM_BUGS = [
     ("body.5.declarations.0.init.properties.0.value.value", "Part::Number(1)"),
 ]
 
+# The call of a namespace, and the statements in its function; in these the call of one that it exports.
+CALL = "body.1.expression"
+IN_CALL = f"{CALL}.callee.expression.body.statements"
+INNER, NOT_EXPORTED = f"{IN_CALL}.13.expression", f"{IN_CALL}.15.expression"
+INNER_OBJECT = f"{INNER}.arguments.0.right.expression.right"
+
+# The same for namespaces, modules and the extensions in their names.
+MODULE_BUGS = [
+    ("body", "without(old, 0)"),
+    ("body", "declared_at(alloc, old, 4, \"B\", ids)?"),
+    ("body", "declared_at(alloc, old, 8, \"z\", ids)?"),
+    ("body", "without(old, 6)"),
+    ("body.0.kind", "Part::Word(Word::Var)"),
+    (f"{CALL}.arguments.0", NEW_OBJECT),
+    (f"{CALL}.arguments.0.left.name", text("B")),
+    (f"{CALL}.callee.expression.params.items.0.pattern.name", text("A")),
+    (f"{CALL}.callee.expression.params.items.0.pattern.name", text("_C")),
+    (f"{CALL}.pure", "Part::Flag(true)"),
+    (f"{IN_CALL}.0.declarations.0.init", "inside(old, Field::Right)"),
+    (f"{IN_CALL}.0.declarations.1.init.left.property.name", text("a")),
+    (f"{IN_CALL}.0.declarations.0.init.left.object.name", text("_B")),
+    (f"{IN_CALL}.2.expression.expressions", "without_last(old)"),
+    (f"{IN_CALL}.2.expression.expressions.0.right.name", text("g")),
+    (IN_CALL, "without(old, 4)"),
+    (f"{IN_CALL}.9.kind", "Part::Word(Word::Let)"),
+    (IN_CALL, "without(old, 12)"),
+    (INNER_OBJECT, NEW_OBJECT),
+    (f"{INNER_OBJECT}.right.expression.left.property.name", text("O")),
+    (f"{NOT_EXPORTED}.callee.expression.body.directives", "without_first(old)"),
+    ("body.2", "inside(old, Field::Declaration)"),
+    ("body.5.kind", "Part::Word(Word::Const)"),
+    ("body.6.declarations.0.init.callee.name", text("f")),
+    ("body.6.declarations.0.init.arguments.0.value", text("w")),
+    ("body.7", "inside(old, Field::Declaration)"),
+    ("body.8.source.value", text("./y.ts")),
+    ("body.9.source.value", text("./x")),
+    ("body.10.expression.source.quasis.0.raw", text("./i.mts")),
+    ("body.10.expression.source.quasis.0.cooked", text("./i.mts")),
+    ("body.12.expression", "inside(old, Field::Right)"),
+    ("body.12.expression.left.property.name", text("export")),
+    ("directives", "without_first(old)"),
+]
+
 # What they are written with.
 HELPERS = """
 fn field<'a>(node: &'a mut Node, field: Field) -> &'a mut Part {
@@ -118,6 +172,16 @@ fn without_last(part: Part) -> Part {
 fn without_first(part: Part) -> Part {
     match part { Part::List(mut items) => { let _first = items.remove(0); Part::List(items) } other => other }
 }
+fn without(part: Part, place: usize) -> Part {
+    match part { Part::List(mut items) => { let _item = items.remove(place); Part::List(items) } other => other }
+}
+fn declared_at(alloc: Global, part: Part, place: usize, name: &str, ids: &mut NodeIds) -> Result<Part, OutOfMemory> {
+    let declared = declaration(alloc, Word::Let, &Name::new(alloc, name)?, None, ids)?;
+    match part {
+        Part::List(mut items) => { items.insert(place, Part::Node(declared))?; Ok(Part::List(items)) }
+        other => Ok(other),
+    }
+}
 fn first_later(part: Part) -> Result<Part, OutOfMemory> {
     match part {
         Part::List(mut items) => { let first = items.remove(0); items.insert(1, first)?; Ok(Part::List(items)) }
@@ -132,11 +196,10 @@ fn looked_up(alloc: Global, put: Part, ids: &mut NodeIds) -> Result<Part, OutOfM
 }
 fn declared(alloc: Global, put: Part, ids: &mut NodeIds) -> Result<Part, OutOfMemory> {
     let value = node_in(inside(inside(put, Field::Expression), Field::Right));
-    Ok(Part::Node(enum_declaration(alloc, &Name::new(alloc, "X")?, true, value, ids)?))
+    Ok(Part::Node(declaration(alloc, Word::Let, &Name::new(alloc, "X")?, Some(value), ids)?))
 }
 """
-IMPORTS = """use crate::block::enum_declaration;
-use crate::nodes::{assignment, computed, empty_object, reference, string_literal};
+IMPORTS = """use oxt_ctx::nodes::{assignment, computed, declaration, empty_object, reference, string_literal};
 use oxt_grammar::field::Field;
 use oxt_grammar::word::Word;
 use oxt_tree::fields::place_of;
@@ -144,7 +207,11 @@ use oxt_tree::ids::NodeIds;
 use oxt_tree::name::Name;
 use std::alloc::Global;
 use crate::inline::inline_constant;"""
-COUNT = len(ERASER_BUGS) + len(LEFT_OUT) + len(ENUM_BUGS)
+# The bugs of the passes but that which erases types, by number: a hook that is left out, or a place and what comes there.
+ON_ENUMS = [*LEFT_OUT_OF_ENUMS, *ENUM_BUGS]
+ON_MODULES = [*LEFT_OUT_OF_MODULES, *MODULE_BUGS]
+LATER_BUGS = dict(enumerate([*ON_ENUMS, *ON_MODULES], len(ERASER_BUGS) + 1))
+COUNT = len(ERASER_BUGS) + len(LATER_BUGS)
 NUMBERED = "if hook == Hook::EnterProgram { self.bug = node.span.start; }"
 
 
@@ -189,17 +256,30 @@ def variant(field):
     return f"Field::{field[:1].upper()}{field[1:]}"
 
 
-def planted_enums(source):
-    """The pass that lowers enums with its bugs in it, by number."""
-    source = put(source, ("pub optimize_enums: bool,\n}", "pub optimize_enums: bool,\n    bug: u32,\n}"),
-                 ("            optimize_enums,\n        }", "            optimize_enums,\n            bug: 0,\n        }"),
-                 ("use crate::inline::inline_constant;", IMPORTS))
+def left_out(source, path):
+    """The pass in that file, with those of its hooks left out that are bugs, by number."""
     lines = {"at_node": NUMBERED, "at_statements": ""}
+    for number, bug in LATER_BUGS.items():
+        if bug[0] == path:
+            method = "at_statements" if bug[1].endswith("Statements") else "at_node"
+            lines[method] += f" if self.bug == {number} && hook == Hook::{bug[1]} {{ return Ok(()); }}"
+    return lines, source
+
+
+def with_lines(lines, source):
+    """The pass with the lines at the begin of its methods."""
+    return at_begin(at_begin(source, "at_node", lines["at_node"]), "at_statements", lines["at_statements"])
+
+
+def planted_enums(source):
+    """The pass that lowers enums with its bugs in it, by number, and with those that change what all passes have made."""
+    lines, source = left_out(put(source, ("pub optimize_enums: bool,\n}", "pub optimize_enums: bool,\n    bug: u32,\n}"),
+                                 ("            optimize_enums,\n        }", "            optimize_enums,\n            bug: 0,\n        }"),
+                                 ("use crate::inline::inline_constant;", IMPORTS)), ENUMS)
     functions = HELPERS
-    for number, hook in enumerate(LEFT_OUT, len(ERASER_BUGS) + 1):
-        method = "at_statements" if hook.endswith("Statements") else "at_node"
-        lines[method] += f" if self.bug == {number} && hook == Hook::{hook} {{ return Ok(()); }}"
-    for number, (path, wrong) in enumerate(ENUM_BUGS, len(ERASER_BUGS) + len(LEFT_OUT) + 1):
+    for number, (path, wrong) in LATER_BUGS.items():
+        if path in (ENUMS, NAMESPACES, MODULES, EXTENSIONS):
+            continue
         functions += f"""fn bug_{number}(node: &mut Node, ids: &mut NodeIds) -> Result<(), OutOfMemory> {{
     let alloc = *node.parts.allocator();
     let place = {place_of(path)};
@@ -209,28 +289,43 @@ def planted_enums(source):
 }}
 """
         lines["at_node"] += f" if self.bug == {number} && hook == Hook::ExitProgram {{ return bug_{number}(node, &mut ctx.ids); }}"
-    return at_begin(at_begin(source, "at_node", lines["at_node"]), "at_statements", lines["at_statements"]) + functions
+    return with_lines(lines, source) + functions
 
 
-def published(source):
-    """The block of an enum, whose declaration a bug makes too."""
-    return put(source, ("\nfn enum_declaration(", "\npub fn enum_declaration("))
+def planted_namespaces(source):
+    """The pass that lowers namespaces with its bugs in it."""
+    return with_lines(*left_out(put(source, ("pub struct TypeScriptNamespace;", "pub struct TypeScriptNamespace { bug: u32 }"),
+                                    ("        TypeScriptNamespace\n    }", "        TypeScriptNamespace { bug: 0 }\n    }")), NAMESPACES))
+
+
+def planted_modules(source):
+    """The pass that lowers `import =` and `export =` with its bugs in it."""
+    return with_lines(*left_out(put(source, ("pub module: Module,\n}", "pub module: Module,\n    bug: u32,\n}"),
+                                    ("            module,\n        }", "            module,\n            bug: 0,\n        }")), MODULES))
+
+
+def planted_extensions(source):
+    """The pass that rewrites the names of modules with its bugs in it."""
+    return with_lines(*left_out(put(source, ("pub mode: RewriteExtensionsMode,\n}", "pub mode: RewriteExtensionsMode,\n    bug: u32,\n}"),
+                                    ("TypeScriptRewriteExtensions { mode }", "TypeScriptRewriteExtensions { mode, bug: 0 }")), EXTENSIONS))
 
 
 PLANTED = {
     "crates/oxt_erase/src/pass.rt": planted_eraser,
-    "crates/oxt_lower/src/pass.rt": planted_enums,
-    "crates/oxt_lower/src/block.rt": published,
+    ENUMS: planted_enums,
+    NAMESPACES: planted_namespaces,
+    MODULES: planted_modules,
+    EXTENSIONS: planted_extensions,
 }
 
 
 def write_cases(folder):
-    """Writes the trees: for each bug one that has its form, and for none both."""
-    forms, enums = (json.loads((TOP / "examples" / f"{name}.json").read_text()) for name in ("forms", "enums"))
-    for number in range(COUNT + 1):
-        tree = forms if number <= len(ERASER_BUGS) else enums
+    """Writes the trees: for each bug one that has its form, and for none all."""
+    forms, enums, modules = (json.loads((TOP / "examples" / f"{name}.json").read_text()) for name in ("forms", "enums", "namespaces"))
+    for number, tree in enumerate([forms] * len(ERASER_BUGS) + [enums] * len(ON_ENUMS) + [modules] * len(ON_MODULES), 1):
         (folder / f"{number:02}").write_text(json.dumps({**tree, "start": number}))
-    (folder / "00e").write_text(json.dumps(enums))
+    for name, tree in zip(("00", "00e", "00m"), (forms, enums, modules)):
+        (folder / name).write_text(json.dumps(tree))
 
 
 def answers():
@@ -251,8 +346,8 @@ def answers():
 
 def main():
     told = answers()
-    caught = sum(bool(line) and status == "2" for line, case, status in told if case.strip("0e"))
-    passes = all(status == "0" and not line for line, case, status in told if not case.strip("0e"))
+    caught = sum(bool(line) and status == "2" for line, case, status in told if case.strip("0em"))
+    passes = all(status == "0" and not line for line, case, status in told if not case.strip("0em"))
     for line, case, status in told:
         print(f"bug {case}: status {status} {line.strip()}")
     print(f"{caught} of {COUNT} bugs are answered uncertified; without one the trees {'are lowered' if passes else 'are NOT lowered'}")

@@ -31,6 +31,13 @@ describe("one file", NEEDS_PROGRAM, () => {
     assert.equal((await runNode([COMMAND, "--only-remove-type-imports", "a.ts"], { cwd })).out, 'import { a } from "b";\n');
   });
 
+  test("takes those that have a word", async (t) => {
+    const cwd = await folderWith(t, { "a.ts": 'import a from "./b.mts";\nimport c = require("d");\na(c);\n' });
+    const lines = ['"use strict";', 'import a from "./b.mjs";', 'const c = require("d");', "a(c);", ""];
+    const words = [COMMAND, "--module", "commonjs", "--rewrite-extensions=rewrite", "--no-namespaces", "a.ts"];
+    assert.deepEqual(await runNode(words, { cwd }), { status: 0, out: lines.join("\n"), err: "" });
+  });
+
   test("has a tree", async () => {
     const { status, out, err } = await runNode([COMMAND, "--tree", "-"], { input: "let a: string;\n" });
     assert.deepEqual([status, err], [0, ""]);

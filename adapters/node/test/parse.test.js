@@ -4,7 +4,7 @@
 import assert from "node:assert/strict";
 import { describe, test } from "node:test";
 import { OxtOptionError, OxtSyntaxError, parse } from "../index.js";
-import { nodesOf } from "./support/trees.js";
+import { bare, nodesOf } from "./support/trees.js";
 
 const first = (source, options) => parse(source, options).body[0];
 const expressionOf = (source) => first(source).expression;
@@ -52,6 +52,9 @@ describe("spans", () => {
     ["export /* a */ declare const b: c", "VariableDeclaration", "declare const b: c"],
     ["class A { /* a */ constructor() {} }", "IdentifierName", "constructor"],
     ["enum A { B }", "TSEnumBody", "{ B }"],
+    ["namespace A /* a */ . B { c }", "TSModuleBlock", "{ c }"],
+    ["export /* a */ import b = c.d;", "TSImportEqualsDeclaration", "import b = c.d;"],
+    ["import a = require ('b');", "TSExternalModuleReference", "require ('b')"],
     ["`a${b}c`", "TemplateElement", "a"],
     ["import a from 'b' assert { type: 'c' }", "WithClause", "assert { type: 'c' }"],
   ];
@@ -62,6 +65,41 @@ describe("spans", () => {
     assert.equal(find(source, "JSXText", { filename: "a.tsx" }).value, " b ");
     assert.equal(spanned(source, find(source, "JSXEmptyExpression", { filename: "a.tsx" })), "/* d */");
   });
+});
+
+describe("namespaces and what CommonJS takes and gives", () => {
+  const named = (type, name) => ({ type, name });
+  const binding = (name) => named("BindingIdentifier", name);
+  const text = { type: "StringLiteral", value: "m", raw: '"m"' };
+  const block = (parts) => ({ type: "TSModuleBlock", ...parts, body: [] });
+  const qualified = { type: "TSQualifiedName", left: named("IdentifierReference", "b"), right: named("IdentifierName", "c") };
+  const required = { type: "TSExternalModuleReference", expression: text };
+  const alias = (parts) => ({ type: "TSImportEqualsDeclaration", ...parts });
+  const cases = [
+    ["namespace A {}", { type: "TSNamespaceDeclaration", id: binding("A"), body: block() }],
+    [
+      "declare module A.B {}",
+      {
+        type: "TSNamespaceDeclaration",
+        id: binding("A"),
+        kind: "module",
+        declare: true,
+        body: { type: "TSNamespaceDeclaration", id: binding("B"), kind: "module", body: block() },
+      },
+    ],
+    ["namespace A { 'a' }", { type: "TSNamespaceDeclaration", id: binding("A"), body: block({ directives: [{ type: "Directive", value: "a" }] }) }],
+    ['declare module "m" {}', { type: "TSExternalModuleDeclaration", id: text, declare: true, body: block() }],
+    ['declare module "m";', { type: "TSExternalModuleDeclaration", id: text, declare: true }],
+    ["declare global {}", { type: "TSGlobalDeclaration", declare: true, body: block() }],
+    ["import a = b;", alias({ id: binding("a"), moduleReference: named("IdentifierReference", "b") })],
+    ["import a = b.c;", alias({ id: binding("a"), moduleReference: qualified })],
+    ['import a = require("m");', alias({ id: binding("a"), moduleReference: required })],
+    ['import type a = require("m");', alias({ importKind: "type", id: binding("a"), moduleReference: required })],
+    ["export import a = b.c;", { type: "ExportDeclaration", declaration: alias({ id: binding("a"), moduleReference: qualified }) }],
+    ["export = a;", { type: "TSExportAssignment", expression: named("IdentifierReference", "a") }],
+    ["export as namespace a;", { type: "TSNamespaceExportDeclaration", id: named("IdentifierName", "a") }],
+  ];
+  for (const [source, expected] of cases) test(source, () => assert.deepEqual(bare(first(source)), expected));
 });
 
 describe("chains", () => {

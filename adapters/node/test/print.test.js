@@ -89,6 +89,12 @@ const GROUPS = {
     "export {} from \"a\";", "export * from \"a\";", "export * as a from \"a\";", "export const a = 1, { b } = c;", "export function f() {}", "export class A {}", "export async function g() {}",
     "import a from \"a\" assert { type: \"json\" };",
   ],
+  "what namespaces and 'import =' become": [
+    "let A; (function (_A) { let b = _A.b = 1, c; })(A || (A = {}));", "export let A;", "(function (_A) { \"use strict\"; f(); })(A || (A = {}));",
+    "(function (_B) { const { c, d: [e] } = f; _B.c = c, _B.e = e; })(B || (B = _A.B || (_A.B = {})));", "(function (_A) { (\"no directive\"); })(A || (A = {}));",
+    "(function (_A) { class B {} _A.B = B; function c() {} _A.c = c; var d = _A.d = C.d; })(A || (A = {}));", "\"use strict\"; const a = require(\"b\"); module.exports = a;",
+    "module.exports = { a: 1 };", "module.exports = function () {};", "module.exports = (a, b);", "var a = b.c.d;",
+  ],
   "JSX": [
     "x = <a/>;", "x = <A b='c' d=\"e\" f {...g} h={i} j=<k/> />;", "x = <a>text {b} <c/> {...d} {/* e */}</a>;", "x = <></>;", "x = <><a/>  b  </>;",
     "x = <a.b.c></a.b.c>;", "x = <a:b c:d=\"e\"/>;", "x = <this.a/>;", "x = <a-b/>;", "x = <a>&lt;&nbsp;&#123;</a>;", "x = <a b=\"&quot;\"/>;", "<a/>;", "x = <a>\n  b\n</a>;",

@@ -46,6 +46,58 @@ describe("what is lowered", NEEDS_PROGRAM, () => {
     assert.equal((await transform(`const ${source}`, { typescript: { optimize_const_enums: true } })).code, 'f(1, "b");\n');
   });
 
+  test("a namespace with what it exports", async () => {
+    const source = "export namespace A { export const b = 1; export namespace C.D { export function e() {} } }\nexport namespace A { f(A.b); }\n";
+    const lines = [
+      "export let A;",
+      "(function (_A) {",
+      "  const b = _A.b = 1;",
+      "  let C;",
+      "  (function (_C) {",
+      "    let D;",
+      "    (function (_D) {",
+      "      function e() {}",
+      "      _D.e = e;",
+      "    })(D || (D = _C.D || (_C.D = {})));",
+      "  })(C || (C = _A.C || (_A.C = {})));",
+      "})(A || (A = {}));",
+      "(function (_A2) {",
+      "  f(A.b);",
+      "})(A || (A = {}));",
+      "",
+    ];
+    assert.deepEqual(await transform(source), { code: lines.join("\n"), diagnostics: [] });
+  });
+
+  test("a pattern in a namespace", async () => {
+    const lines = ["let A;", "(function (_A) {", "  const { b, c: [d] } = e;", "  _A.b = b, _A.d = d;", "})(A || (A = {}));", ""];
+    assert.equal((await transform("namespace A { export const { b, c: [d] } = e; }")).code, lines.join("\n"));
+  });
+
+  test("an 'import =' of a name and of a module, and an 'export ='", async () => {
+    const source = 'import a = require("b");\nimport c = a.d;\nimport type e = require("f");\nexport = c;\n';
+    const lines = ['const a = require("b");', "var c = a.d;", "module.exports = c;", ""];
+    assert.deepEqual(await transform(source), { code: lines.join("\n"), diagnostics: [] });
+    assert.equal((await transform(source, { module: "commonjs" })).code, ['"use strict";', ...lines].join("\n"));
+    const { code, diagnostics } = await transform(source, { module: "esm" });
+    assert.equal(code, lines.join("\n"));
+    assert.deepEqual(diagnostics.map((it) => [it.code, it.line, it.column]), [["TS1202", 1, 1], ["TS1203", 4, 1]]);
+  });
+
+  test("namespaces that are not wanted are told of", async () => {
+    const { diagnostics } = await transform("type A = 1;\n  namespace B { export const c = 1; }\n", { typescript: { allow_namespaces: false } });
+    assert.deepEqual(diagnostics.map(({ line, column }) => [line, column]), [[2, 3]]);
+  });
+
+  test("names of modules under an option", async () => {
+    const source = 'import a from "./b.mts";\na;\n';
+    const written = async (mode) => (await transform(source, { typescript: { rewrite_import_extensions: mode } })).code;
+    assert.equal(await written(false), source);
+    assert.equal(await written(true), source.replace(".mts", ".mjs"));
+    assert.equal(await written("rewrite"), source.replace(".mts", ".mjs"));
+    assert.equal(await written("remove"), source.replace(".mts", ""));
+  });
+
   test("what a diagnostic tells of is written without its type", async () => {
     const { code, diagnostics } = await transform("(f() as any)++;", { filename: "a.ts" });
     assert.equal(code, "f()++;\n");
@@ -78,7 +130,9 @@ describe("refusals name their place", NEEDS_PROGRAM, () => {
     ["enum A { B = 9007199254740991, C }", "wide at a.ts:1:32"],
     ["function f() { enum A { B = arguments.length } }", "captured arguments at a.ts:1:29"],
     ["enum A { B, C = ((A) => B)(1) }", "captured A at a.ts:1:25"],
-    ["let a;\nnamespace B { a; }", "unbuilt TSNamespaceDeclaration at a.ts:2:1"],
+    ["a;\n{ namespace B { c; } }", "misplaced namespace at a.ts:2:3"],
+    ["namespace A { this; }", "captured this at a.ts:1:15"],
+    ["class A { constructor(private b) {} }", "unbuilt FormalParameter at a.ts:1:23"],
   ];
   for (const [source, message] of cases) {
     test(source.slice(0, 60), async () => {

@@ -5,9 +5,10 @@ use oxt_lines::stopped::Stopped;
 use oxt_options::options::{DecoratorOptions, Module, TransformOptions, TypeScriptOptions};
 use oxt_options::rewrite::{RewriteExtensionsMode, parse_rewrite_import_extensions};
 use oxt_options::state::TransformState;
+use oxt_tree::name::Name;
 use std::alloc::Global;
 
-/// The defaults, the words for extensions, and a state.
+/// The defaults, the words for extensions, names of modules, and a state.
 pub fn print_options(alloc: Global, lines: &mut Lines) -> Result<(), Stopped> {
     defaults(alloc, lines)?;
     for word in [
@@ -22,7 +23,38 @@ pub fn print_options(alloc: Global, lines: &mut Lines) -> Result<(), Stopped> {
             RewriteExtensionsMode::Rewrite.is_remove(),
         ],
     )?;
+    for text in SPECIFIERS {
+        print_rewritten(alloc, text, lines)?;
+    }
     state(alloc, lines)
+}
+
+/// Names of modules.
+const SPECIFIERS: [&str; 10] = [
+    "./a.d.ts", "./a.tsx", "./a.mts", "../a.cts", ".\\a.ts", "a.ts", "./a.json", "./a", "./a.tsa",
+    "/.ts",
+];
+
+/// A line with what becomes of the name of a module.
+fn print_rewritten(alloc: Global, text: &str, lines: &mut Lines) -> Result<(), Stopped> {
+    let rewritten = RewriteExtensionsMode::Rewrite.rewritten(alloc, text)?;
+    let removed = RewriteExtensionsMode::Remove.rewritten(alloc, text)?;
+    lines.begin_of(
+        "rewritten, as what is rewritten and what is removed, of",
+        text,
+    )?;
+    lines.value(text_of(rewritten.as_ref()))?;
+    lines.value(text_of(removed.as_ref()))?;
+    lines.end()?;
+    Ok(())
+}
+
+/// The text of a name, or a dash.
+fn text_of(name: Option<&Name>) -> &str {
+    match name {
+        Some(name) => name.as_str(),
+        None => "-",
+    }
 }
 
 /// A line with what the word says.

@@ -6,6 +6,7 @@ use oxt_inline::inlined::inlined_expressions;
 use oxt_lines::lines::Lines;
 use oxt_lines::stopped::Stopped;
 use oxt_lines::table::Table;
+use oxt_modules::kept::kept_nodes;
 use oxt_options::options::TypeScriptOptions;
 use oxt_resolve::resolve::resolve;
 use oxt_scoping::scoping::Scoping;
@@ -78,7 +79,8 @@ fn print_inlined(
     options: &TypeScriptOptions,
     lines: &mut Lines,
 ) -> Result<(), Stopped> {
-    let inlined = inlined_expressions(alloc, program, scoping, options)?;
+    let kept = kept_nodes(alloc, program, scoping, options)?;
+    let inlined = inlined_expressions(alloc, program, scoping, &kept, options)?;
     lines.begin("inlined")?;
     for expression in &inlined {
         lines.number_value(expression.0.0)?;
@@ -96,7 +98,8 @@ fn print_dropped(
     options: &TypeScriptOptions,
     lines: &mut Lines,
 ) -> Result<(), Stopped> {
-    let dropped = dropped_blocks(alloc, program, scoping, options)?;
+    let kept = kept_nodes(alloc, program, scoping, options)?;
+    let dropped = dropped_blocks(alloc, program, scoping, &kept, options)?;
     lines.begin("dropped")?;
     for block in &dropped {
         lines.number_value(block.0)?;

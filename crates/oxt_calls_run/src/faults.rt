@@ -9,6 +9,7 @@ use std::alloc::Global;
 pub fn print_faults(alloc: Global, lines: &mut Lines) -> Result<(), Stopped> {
     at_places(alloc, lines)?;
     at_indices(alloc, lines)?;
+    of_name(alloc, lines)?;
     unbuilt(alloc, lines)?;
     tell(alloc, &Fault::OutOfMemory, lines)
 }
@@ -33,6 +34,11 @@ fn setting(alloc: Global, lines: &mut Lines) -> Result<(), Stopped> {
 fn at_indices(alloc: Global, lines: &mut Lines) -> Result<(), Stopped> {
     uncertified(alloc, Mismatch::Item { index: 12 }, lines)?;
     uncertified(alloc, Mismatch::Owner { index: 3 }, lines)
+}
+
+fn of_name(alloc: Global, lines: &mut Lines) -> Result<(), Stopped> {
+    let name = Name::new(alloc, "_N")?;
+    uncertified(alloc, Mismatch::Binding { name }, lines)
 }
 
 fn unbuilt(alloc: Global, lines: &mut Lines) -> Result<(), Stopped> {

@@ -3,6 +3,7 @@
 use oxt_lines::lines::Lines;
 use oxt_lines::stopped::Stopped;
 use oxt_lines::table::Table;
+use oxt_options::options::TransformOptions;
 use oxt_options::plan::Plan;
 use oxt_resolve::resolve::resolve;
 use oxt_transform::certificate::find_mismatch;
@@ -52,7 +53,8 @@ fn settings(alloc: Global, table: &Table, lines: &mut Lines) -> Result<(), Stopp
 fn expected_of(alloc: Global, root: &Node) -> Result<Expected, Stopped> {
     let scoping = resolve(alloc, root)?;
     let plan = Plan::empty(alloc);
-    Ok(Expected::of(alloc, root, &scoping, &plan, false)?)
+    let options = TransformOptions::defaults(alloc)?;
+    Ok(Expected::of(alloc, root, &scoping, &plan, &options)?)
 }
 
 /// A line with the place of the setting that is wrong.

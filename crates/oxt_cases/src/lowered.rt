@@ -5,7 +5,7 @@ use crate::told::plan_of;
 use oxt_ctx::context::TraverseCtx;
 use oxt_json_write::write_tree;
 use oxt_lower::pass::TypeScriptEnum;
-use oxt_options::options::Module;
+use oxt_options::options::{Module, TypeScriptOptions};
 use oxt_options::state::TransformState;
 use oxt_resolve::resolve::resolve;
 use oxt_tree::ids::OutOfMemory;
@@ -27,22 +27,34 @@ const STATE: TransformState = TransformState {
 /// # Errors
 ///
 /// Fails only where memory runs out.
-pub fn lines_of(alloc: Global, program: &mut Program) -> Result<String, OutOfMemory> {
-    lower(alloc, program)?;
+pub fn lines_of(
+    alloc: Global,
+    program: &mut Program,
+    options: &TypeScriptOptions,
+) -> Result<String, OutOfMemory> {
+    lower(alloc, program, options)?;
     json_of(alloc, program)
 }
 
 /// Lowers the enums of the program.
-fn lower(alloc: Global, program: &mut Program) -> Result<(), OutOfMemory> {
-    let mut ctx = context_of(alloc, program)?;
-    let mut pass = TypeScriptEnum::new(false, false);
+fn lower(
+    alloc: Global,
+    program: &mut Program,
+    options: &TypeScriptOptions,
+) -> Result<(), OutOfMemory> {
+    let mut ctx = context_of(alloc, program, options)?;
+    let mut pass = TypeScriptEnum::new(options.optimize_const_enums, options.optimize_enums);
     walk_program(&mut pass, &mut program.root, &mut ctx)
 }
 
 /// What is known of the program.
-fn context_of(alloc: Global, program: &Program) -> Result<TraverseCtx, OutOfMemory> {
+fn context_of(
+    alloc: Global,
+    program: &Program,
+    options: &TypeScriptOptions,
+) -> Result<TraverseCtx, OutOfMemory> {
     let scoping = resolve(alloc, &program.root)?;
-    let plan = plan_of(alloc, &program.root, &scoping, false)?;
+    let plan = plan_of(alloc, &program.root, &scoping, options)?;
     Ok(TraverseCtx::new(alloc, scoping, plan, STATE, program.ids))
 }
 

@@ -29,6 +29,7 @@ mod items;
 mod levels;
 mod lowered;
 mod names;
+mod namespaces;
 mod nodes;
 mod run;
 mod scopes;

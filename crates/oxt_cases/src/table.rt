@@ -33,7 +33,7 @@ pub enum Table {
     Clash,
     /// What stands in the way of lowering the enums.
     EnumFaults,
-    /// What is told of enums.
+    /// What is told of nodes.
     Told,
     /// The first words at the level of the statements.
     Levels,
@@ -41,7 +41,7 @@ pub enum Table {
     Lowered,
     /// The word of the tree as that of a source.
     Word,
-    /// The same, where of enums is told what they are.
+    /// The same, where nodes are told what they become.
     ToldWord,
     /// The same, where names have their groups.
     Owned,
@@ -156,8 +156,11 @@ impl Table {
 
     /// The lines for a tree alone.
     fn tree_lines(self, alloc: Global, trees: &mut Trees) -> Result<String, OutOfMemory> {
-        let optimizes = trees.optimizes;
-        let program = &mut trees.tree;
+        let Trees {
+            tree: program,
+            options,
+            ..
+        } = trees;
         match self {
             Table::Names => names::lines_of(alloc, &program.root),
             Table::Owners => names::numbered_lines_of(alloc, &program.root),
@@ -170,11 +173,11 @@ impl Table {
             Table::FirstBlocks => blocks::first_lines_of(alloc, &program.root),
             Table::Clash => blocks::clash_lines_of(alloc, &program.root),
             Table::EnumFaults => faults::lines_of(alloc, &program.root),
-            Table::Told => told::lines_of(alloc, program, optimizes),
+            Table::Told => told::lines_of(alloc, program, options),
             Table::Levels => levels::lines_of(alloc, &program.root),
-            Table::Lowered => lowered::lines_of(alloc, program),
-            Table::ToldWord => words::told_lines(alloc, &program.root, optimizes),
-            Table::Owned => words::owned_lines(alloc, &program.root, optimizes),
+            Table::Lowered => lowered::lines_of(alloc, program, &options.typescript),
+            Table::ToldWord => words::told_lines(alloc, &program.root, options),
+            Table::Owned => words::owned_lines(alloc, &program.root, options),
             _ => words::source_lines(alloc, &program.root),
         }
     }

@@ -1,13 +1,14 @@
-//! What is told of enums.
+//! What is told of the nodes of a program.
 use crate::constants::push_value;
+use crate::namespaces::{push_export, push_namespace, push_quasi, push_stored};
 use oxt_enum_checks::first::first_blocks;
 use oxt_facts::told::{MemberValue, Told, ToldBlock, ToldMember, ToldNodes};
 use oxt_inline::dropped::dropped_blocks;
 use oxt_inline::inlined::inlined_expressions;
-use oxt_modules::kept::kept_specifiers;
+use oxt_modules::kept::kept_nodes;
 use oxt_names::constant::ConstantValue;
 use oxt_options::lists::PlanLists;
-use oxt_options::options::TypeScriptOptions;
+use oxt_options::options::{TransformOptions, TypeScriptOptions};
 use oxt_options::plan::Plan;
 use oxt_resolve::resolve::resolve;
 use oxt_scoping::scoping::Scoping;
@@ -16,7 +17,7 @@ use oxt_tree::ids::{NodeId, OutOfMemory};
 use oxt_tree::tree::{Node, Program};
 use std::alloc::Global;
 
-/// What is told of the nodes of the program, the members of whose enums are inlined or not.
+/// What is told of the nodes of the program under the options.
 ///
 /// # Errors
 ///
@@ -24,14 +25,14 @@ use std::alloc::Global;
 pub fn told_nodes(
     alloc: Global,
     program: &Node,
-    optimizes: bool,
+    options: &TransformOptions,
 ) -> Result<ToldNodes, OutOfMemory> {
     let scoping = resolve(alloc, program)?;
-    let plan = plan_of(alloc, program, &scoping, optimizes)?;
-    told_of_source(alloc, program, &scoping, &plan, false)
+    let plan = plan_of(alloc, program, &scoping, &options.typescript)?;
+    told_of_source(alloc, program, &scoping, &plan, options)
 }
 
-/// The plan for the blocks of enums of the program, their members and what is inlined of them.
+/// The plan for what is kept of the modules of the program, and for its blocks of enums and namespaces.
 ///
 /// # Errors
 ///
@@ -40,34 +41,31 @@ pub fn plan_of(
     alloc: Global,
     program: &Node,
     scoping: &Scoping,
-    optimizes: bool,
+    options: &TypeScriptOptions,
 ) -> Result<Plan, OutOfMemory> {
-    let options = options_of(alloc, optimizes)?;
+    let kept = kept_nodes(alloc, program, scoping, options)?;
     let mut lists = PlanLists::empty(alloc);
-    lists.kept = kept_specifiers(alloc, program, scoping, &options)?;
     lists.first = first_blocks(alloc, program, scoping)?;
-    lists.inlined = inlined_expressions(alloc, program, scoping, &options)?;
-    lists.dropped = dropped_blocks(alloc, program, scoping, &options)?;
+    lists.inlined = inlined_expressions(alloc, program, scoping, &kept, options)?;
+    lists.dropped = dropped_blocks(alloc, program, scoping, &kept, options)?;
+    lists.kept = kept.into_nodes();
     Plan::new(alloc, lists)
 }
 
-/// The options by which the members of all enums are inlined, or of none.
-fn options_of(alloc: Global, optimizes: bool) -> Result<TypeScriptOptions, OutOfMemory> {
-    let mut options = TypeScriptOptions::defaults(alloc)?;
-    options.optimize_enums = optimizes;
-    options.optimize_const_enums = optimizes;
-    Ok(options)
-}
-
-/// A line for each node of which something is told: its number and `block`, `member`, `bare`, `inlined` or `gone`,
-/// the name of the enum, and of a block whether it is first, the program's own and pure, of a member its name, its
-/// value and whether it has a name by its value, and the constant that is inlined.
+/// A line for each node of which something is told: its number and `block`, `member`, `bare`, `inlined`, `gone`,
+/// `listless`, `strict`, `quasi`, `namespace`, `export` or `stored`. Behind it stand the name of the enum, of a block
+/// whether it is first, the program's own and pure, of a member its name, its value and whether it has a name by its
+/// value; the constant that is inlined; the two texts of a piece of a template; what is told of namespaces.
 ///
 /// # Errors
 ///
 /// Fails only where memory runs out.
-pub fn lines_of(alloc: Global, program: &Program, optimizes: bool) -> Result<String, OutOfMemory> {
-    let told = told_nodes(alloc, &program.root, optimizes)?;
+pub fn lines_of(
+    alloc: Global,
+    program: &Program,
+    options: &TransformOptions,
+) -> Result<String, OutOfMemory> {
+    let told = told_nodes(alloc, &program.root, options)?;
     lines_from(alloc, program.ids.next, &told)
 }
 
@@ -94,6 +92,11 @@ fn push_told(
         Some(Told::Inlined(constant)) => push_inlined(alloc, number, constant, lines),
         Some(Told::Gone) => Ok(writeln!(lines, "{number} gone")?),
         Some(Told::Listless) => Ok(writeln!(lines, "{number} listless")?),
+        Some(Told::Strict) => Ok(writeln!(lines, "{number} strict")?),
+        Some(Told::Quasi(quasi)) => push_quasi(number, quasi, lines),
+        Some(Told::Namespace(namespace)) => push_namespace(number, namespace, lines),
+        Some(Told::Export(export)) => push_export(number, export, lines),
+        Some(Told::Stored(stored)) => push_stored(number, stored, lines),
         None => Ok(()),
     }
 }

@@ -7,6 +7,7 @@ use oxt_facts::item::Item;
 use oxt_facts::owners::NameGroups;
 use oxt_facts::told::ToldNodes;
 use oxt_names::uid::UidNames;
+use oxt_options::options::TransformOptions;
 use oxt_resolve::resolve::resolve;
 use oxt_told::groups::groups_of;
 use oxt_tree::ids::OutOfMemory;
@@ -25,13 +26,17 @@ pub fn source_lines(alloc: Global, source: &Node) -> Result<String, OutOfMemory>
     word_lines(alloc, &facts, source)
 }
 
-/// The same, where of its enums is told what they are, and whether their members are inlined.
+/// The same, where its nodes are told what they become under the options.
 ///
 /// # Errors
 ///
 /// Fails only where memory runs out.
-pub fn told_lines(alloc: Global, source: &Node, optimizes: bool) -> Result<String, OutOfMemory> {
-    let told = told_nodes(alloc, source, optimizes)?;
+pub fn told_lines(
+    alloc: Global,
+    source: &Node,
+    options: &TransformOptions,
+) -> Result<String, OutOfMemory> {
+    let told = told_nodes(alloc, source, options)?;
     let facts = facts_with(alloc, source, told)?;
     word_lines(alloc, &facts, source)
 }
@@ -41,8 +46,12 @@ pub fn told_lines(alloc: Global, source: &Node, optimizes: bool) -> Result<Strin
 /// # Errors
 ///
 /// Fails only where memory runs out.
-pub fn owned_lines(alloc: Global, source: &Node, optimizes: bool) -> Result<String, OutOfMemory> {
-    let told = told_nodes(alloc, source, optimizes)?;
+pub fn owned_lines(
+    alloc: Global,
+    source: &Node,
+    options: &TransformOptions,
+) -> Result<String, OutOfMemory> {
+    let told = told_nodes(alloc, source, options)?;
     let facts = facts_with(alloc, source, told)?;
     let items = word_of(&facts, source)?;
     group_lines(alloc, items.as_slice())

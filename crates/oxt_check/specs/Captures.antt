@@ -1,11 +1,15 @@
 -- The first captured name of a program, by all that captures.
-use Rattle.std.specs.Prelude.{nat_lt, if◌then◌else◌, Option, None, Some, option_map}
+use Rattle.std.specs.Prelude.{ℕ, Bool, nat_lt, if◌then◌else◌, Option, None, Some, option_map}
 use Rattle.oxt_check.specs.declared.capture.NameAt.{NameAt}
 use Rattle.oxt_enum_checks.specs.Shadows.{Shadow, shadowed}
 use Rattle.oxt_faults.specs.Captured.{Capture, captured}
+use Rattle.oxt_faults.specs.Free.{free}
 use Rattle.oxt_faults.specs.Initializers.{initializer_word}
 use Rattle.oxt_faults.specs.Level.{LevelWordAt}
+use Rattle.oxt_faults.specs.Namespaces.{namespace_word}
 use Rattle.oxt_faults.specs.Words.{text_of_word}
+use Rattle.oxt_modules.specs.Aliases.{left_out}
+use Rattle.oxt_options.specs.Facts.{is_in}
 use Rattle.oxt_scoping.specs.Scoped.{Scoped}
 use Rattle.oxt_tree.specs.Doc.{Doc}
 
@@ -18,7 +22,7 @@ former None c = c
 former (Some b) None = Some b
 former (Some b) (Some c) = Some (if nat_lt c.node b.node then c else b)
 
--- a word in an initializer that goes into a function
+-- a word in code that goes into a function
 abbrev pub word_capture : LevelWordAt → Capture
 word_capture w = record { node = w.1; name = text_of_word w.0 }
 
@@ -26,9 +30,17 @@ word_capture w = record { node = w.1; name = text_of_word w.0 }
 abbrev pub shadow_capture : Shadow → Capture
 shadow_capture n = record { node = n.node; name = n.name }
 
--- The one at the node of the least number of a whole tree: of names whose declarations are erased, of words in
--- initializers that stay as written, and of names of enums; of several at one node the first of these.
-abbrev pub first_capture : Scoped → Doc → Option Capture
-first_capture s d =
-    former (captured s d)
-    (former (option_map word_capture (initializer_word s d)) (option_map shadow_capture (shadowed s d)))
+-- of the words in initializers that stay as written and of those in namespaces, the one at the node of the lesser number
+abbrev pub captured_word : Scoped → Doc → Option Capture
+captured_word s d = former (option_map word_capture (initializer_word s d)) (option_map word_capture (namespace_word d))
+
+-- of names whose declarations are erased, of free names that are made and of names of enums, where that is kept
+abbrev pub captured_spelling : Scoped → (ℕ → Bool) → Doc → Option Capture
+captured_spelling s ks d =
+    former (captured s (is_in (left_out ks d)) d) (former (free s ks d) (option_map shadow_capture (shadowed s d)))
+
+-- The one at the node of the least number of a whole tree, in which that is kept: of words in initializers that stay as
+-- written, of words in namespaces, of names whose declarations are erased, of free names that are made, and of names of
+-- enums; of several at one node the first of these.
+abbrev pub first_capture : Scoped → (ℕ → Bool) → Doc → Option Capture
+first_capture s ks d = former (captured_word s d) (captured_spelling s ks d)

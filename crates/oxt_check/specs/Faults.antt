@@ -1,5 +1,5 @@
 -- What a fault says, and the faults of a source tree.
-use Rattle.std.specs.Prelude.{◌≡◌, ℕ, List, [], if◌then◌else◌, Option, None, Some, option_map, unwrap_or, ⊤}
+use Rattle.std.specs.Prelude.{◌≡◌, ℕ, List, [], Bool, if◌then◌else◌, Option, None, Some, option_map, unwrap_or, ⊤}
 use Rattle.std.specs.Option.{option_or}
 use Rattle.oxt_check.specs.Captures.{first_capture}
 use Rattle.oxt_check.specs.Misplacements.{first_misplacement}
@@ -16,7 +16,7 @@ use Rattle.oxt_inline.specs.Inlined.{inlined}
 use Rattle.oxt_modules.specs.Kept.{kept}
 use Rattle.oxt_options.specs.Options.{TransformData}
 use Rattle.oxt_tree.specs.Place.{place_of}
-use Rattle.oxt_options.specs.Facts.{Facts, no_facts}
+use Rattle.oxt_options.specs.Facts.{Facts, is_in, no_facts}
 use Rattle.oxt_scoping.specs.Scoped.{Scoped}
 use Rattle.oxt_unbuilt.specs.Unbuilt.{unbuilt}
 use Rattle.oxt_tree.specs.Doc.{Doc}
@@ -50,36 +50,43 @@ abbrev pub captured_refusal : Doc → Capture → Refusal
 captured_refusal d c = captured_name c.name (place_text d c.node)
 
 -- The first misplaced node, and else the first member whose constant would be too large, and else the first captured
--- name.
-abbrev pub place_fault : Scoped → Doc → Option Refusal
-place_fault s d =
+-- name, where that is kept.
+abbrev pub place_fault : Scoped → (ℕ → Bool) → Doc → Option Refusal
+place_fault s ks d =
     option_or (option_map (misplaced_refusal d) (first_misplacement s d))
-    (option_or (option_map wide_refusal (wide s d)) (option_map (captured_refusal d) (first_capture s d)))
+    (option_or (option_map wide_refusal (wide s d)) (option_map (captured_refusal d) (first_capture s ks d)))
+
+-- the same of any tree: in a file of definitions, of which nothing is left, nothing is at fault
+abbrev pub code_fault : Scoped → (ℕ → Bool) → Doc → Option Refusal
+code_fault s ks d = if is_definition_file d then None else place_fault s ks d
 
 -- The first reason for which a source tree is refused: a form that is not built yet; and, where it is no file of
--- definitions, of which nothing is left, a misplaced node, a constant that would be too large, or a captured name.
-abbrev pub first_fault : Scoped → Doc → Option Refusal
-first_fault s d = option_or (option_map unbuilt_form (unbuilt d)) (if is_definition_file d then None else place_fault s d)
+-- definitions, a misplaced node, a constant that would be too large, or a captured name.
+abbrev pub first_fault : Scoped → Doc → TransformData → Option Refusal
+first_fault s d o = option_or (option_map unbuilt_form (unbuilt d)) (code_fault s (is_in (kept s d o.typescript)) d)
 
--- it is the first fault of the source tree; for want of memory, nothing is said
-abbrev pub IsFaultOf : Option Refusal → Scoped → Doc → Type 0
-IsFaultOf None s d = ⊤
-IsFaultOf (Some r) s d = first_fault s d ≡ Some r
+-- it is that fault; for want of memory, nothing is said
+abbrev pub IsThe : Option Refusal → Option Refusal → Type 0
+IsThe None f = ⊤
+IsThe (Some r) f = f ≡ Some r
 
--- the same of its places
-abbrev pub IsPlaceFault : Option Refusal → Scoped → Doc → Type 0
-IsPlaceFault None s d = ⊤
-IsPlaceFault (Some r) s d = place_fault s d ≡ Some r
+-- it is the first fault of the source tree
+abbrev pub IsFaultOf : Option Refusal → Scoped → Doc → TransformData → Type 0
+IsFaultOf r s d o = IsThe r (first_fault s d o)
 
 -- ---- the plan
 
--- What a plan knows of the source tree: the specifiers that are kept, the blocks that come first in their enums, the
--- expressions that are inlined with their constants, and the blocks that are dropped.
-abbrev pub facts_of : Scoped → Doc → TransformData → Facts
-facts_of s d o =
+-- What a plan knows of a tree in which that is kept: besides it the blocks that come first in their enums and
+-- namespaces, the expressions that are inlined with their constants, and the blocks that are dropped.
+abbrev pub facts_by : List ℕ → Scoped → Doc → TransformData → Facts
+facts_by ks s d o =
     record no_facts {
-      kept = kept s d o.typescript;
+      kept = ks;
       first = first_blocks s d;
-      dropped = dropped s d o.typescript;
-      inlined = inlined s d o.typescript;
+      dropped = dropped s (is_in ks) d o.typescript;
+      inlined = inlined s (is_in ks) d o.typescript;
     }
+
+-- the same of the source tree, in which what is kept follows from its names
+abbrev pub facts_of : Scoped → Doc → TransformData → Facts
+facts_of s d o = facts_by (kept s d o.typescript) s d o

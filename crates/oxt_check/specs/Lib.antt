@@ -5,4 +5,5 @@ pub mod Faults
 pub mod Laws
 pub mod Misplacements
 pub mod Refusals
+pub mod Seats
 pub mod Targets

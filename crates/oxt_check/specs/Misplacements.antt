@@ -1,6 +1,7 @@
 -- The first misplaced node of a program, of all kinds.
 use Rattle.std.specs.Prelude.{ℕ, Bool, ◌&&◌, ◌||◌, nat_lt, nat_eq, if◌then◌else◌, Option, None, Some, option_map}
 use Rattle.oxt_enum_checks.specs.Clash.{first_clash}
+use Rattle.oxt_enum_checks.specs.LateBase.{late_base}
 use Rattle.oxt_enum_checks.specs.Misnamed.{misnamed}
 use Rattle.oxt_faults.specs.Misplaced.{Misplacement, misplaced}
 use Rattle.oxt_faults.specs.declared.misplaced.MisplacedKind.{MisplacedKind}
@@ -11,9 +12,10 @@ use Rattle.oxt_tree.specs.Doc.{Doc}
 -- the place of a kind among those of one node
 abbrev pub rank : MisplacedKind → ℕ
 rank misplaced_kind.Body = 0
-rank misplaced_kind.Merge = 1
-rank misplaced_kind.Enum = 2
-rank misplaced_kind.Decorator = 3
+rank misplaced_kind.Namespace = 1
+rank misplaced_kind.Merge = 2
+rank misplaced_kind.Enum = 3
+rank misplaced_kind.Decorator = 4
 
 -- one comes before the other: its node has the lesser number, or it is of an earlier kind at the same node
 abbrev pub is_before : Misplacement → Misplacement → Bool
@@ -29,9 +31,14 @@ former (Some m) (Some n) = Some (if is_before n m then n else m)
 abbrev pub of_kind : MisplacedKind → Option ℕ → Option Misplacement
 of_kind k n = option_map (λ (i : ℕ). (k, i)) n
 
+-- the first that names decide: a function or class behind a namespace of its name, a declaration that does not merge, a
+-- member of an enum or a bare name of one
+abbrev pub named_misplacement : Scoped → Doc → Option Misplacement
+named_misplacement s d =
+    former (of_kind misplaced_kind.Namespace (late_base s d))
+    (former (of_kind misplaced_kind.Merge (first_clash s d)) (of_kind misplaced_kind.Enum (misnamed s d)))
+
 -- The first of a whole tree: of all kinds the one at the node of the least number, and of several kinds at one node the
 -- earliest.
 abbrev pub first_misplacement : Scoped → Doc → Option Misplacement
-first_misplacement s d =
-    former (misplaced d)
-    (former (of_kind misplaced_kind.Merge (first_clash s d)) (of_kind misplaced_kind.Enum (misnamed s d)))
+first_misplacement s d = former (misplaced d) (named_misplacement s d)

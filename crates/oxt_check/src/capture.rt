@@ -1,15 +1,21 @@
 //! The first captured name of a program, by all that captures.
 ghost use Rattle.std.specs.Prelude.{◌≡◌, IfOk, option_map};
-ghost use Rattle.oxt_check.specs.Captures.{first_capture, former, name_view, shadow_capture, word_capture};
+ghost use Rattle.oxt_check.specs.Captures.{captured_spelling, captured_word, first_capture, former, name_view, shadow_capture, word_capture};
 ghost use Rattle.oxt_enum_checks.specs.Shadows.{shadow_view};
 ghost use Rattle.oxt_faults.specs.Captured.{capture_view};
+ghost use Rattle.oxt_faults.specs.Free.{free_view};
 ghost use Rattle.oxt_faults.specs.Level.{found_view};
+ghost use Rattle.oxt_options.specs.Facts.{is_in};
 ghost use Rattle.oxt_tree.specs.View.{node_doc};
 
 use oxt_enum_checks::shadowed::{ShadowedName, first_shadowed};
 use oxt_faults::captured::{CapturedName, first_captured};
+use oxt_faults::free::{FoundFree, first_free};
 use oxt_faults::initializer::first_initializer_word;
 use oxt_faults::level::FoundWord;
+use oxt_faults::namespace::first_namespace_word;
+use oxt_modules::alias::left_out_names;
+use oxt_modules::nodes::NodeList;
 use oxt_scoping::scoping::Scoping;
 use oxt_tree::ids::{NodeId, OutOfMemory};
 use oxt_tree::tree::Node;
@@ -24,9 +30,10 @@ pub struct NameAt<'a> {
     pub name: &'a str,
 }
 
-/// The captured name at the node of the least number: a name whose declaration is erased, a word in an initializer that
-/// goes into a function, or the name of an enum at a bare name of a member, which is written by way of it. Of several at
-/// one node it is the first of these. `scoping` is the table of the program.
+/// The captured name at the node of the least number: a word in an initializer or a namespace that goes into a function,
+/// a name whose declaration is erased, a free name that is made and has a declaration around it, or the name of an enum
+/// at a bare name of a member, which is written by way of it. Of several at one node it is the first of these. `scoping`
+/// is the table of the program, and `kept` lists what of its imports and exports is kept.
 ///
 /// # Errors
 ///
@@ -35,14 +42,45 @@ pub fn first_capture<'a>(
     alloc: Global,
     program: &'a Node,
     scoping: &'a Scoping,
+    kept: &NodeList,
 ) -> Result<Option<NameAt<'a>>, OutOfMemory>
     ensures { IfOk result (λ found. option_map name_view found
-        ≡ first_capture scoping.now (node_doc program.now)) }
+        ≡ first_capture scoping.now (is_in kept.now) (node_doc program.now)) }
 {
-    let captured = of_name(first_captured(alloc, program, scoping)?);
-    let word = of_word(first_initializer_word(alloc, program, scoping)?);
+    let word = captured_word(alloc, program, scoping)?;
+    let spelling = captured_spelling(alloc, program, scoping, kept)?;
+    Ok(former(word, spelling))
+}
+
+/// The first word in an initializer or a namespace that goes into a function.
+fn captured_word<'a>(
+    alloc: Global,
+    program: &'a Node,
+    scoping: &'a Scoping,
+) -> Result<Option<NameAt<'a>>, OutOfMemory>
+    ensures { IfOk result (λ found. option_map name_view found
+        ≡ captured_word scoping.now (node_doc program.now)) }
+{
+    let initializer = of_word(first_initializer_word(alloc, program, scoping)?);
+    let namespace = of_word(first_namespace_word(program));
+    Ok(former(initializer, namespace))
+}
+
+/// The first name that would mean another declaration.
+fn captured_spelling<'a>(
+    alloc: Global,
+    program: &'a Node,
+    scoping: &'a Scoping,
+    kept: &NodeList,
+) -> Result<Option<NameAt<'a>>, OutOfMemory>
+    ensures { IfOk result (λ found. option_map name_view found
+        ≡ captured_spelling scoping.now (is_in kept.now) (node_doc program.now)) }
+{
+    let left_out = left_out_names(alloc, program, kept)?;
+    let erased = of_name(first_captured(alloc, program, scoping, &left_out)?);
+    let made = of_free(first_free(program, scoping, kept));
     let shadowed = of_shadow(first_shadowed(alloc, program, scoping)?);
-    Ok(former(captured, former(word, shadowed)))
+    Ok(former(erased, former(made, shadowed)))
 }
 
 /// The name whose declaration is erased.
@@ -56,9 +94,20 @@ fn of_name<'a>(found: Option<CapturedName<'a>>) -> Option<NameAt<'a>>
     })
 }
 
-/// The word in an initializer.
+/// The word in code that goes into a function.
 fn of_word<'a>(found: Option<FoundWord>) -> Option<NameAt<'a>>
     ensures { option_map name_view result ≡ option_map word_capture (option_map found_view found) }
+{
+    let found = found?;
+    Some(NameAt {
+        node: found.node,
+        name: found.word.as_str(),
+    })
+}
+
+/// The free name that is made.
+fn of_free<'a>(found: Option<FoundFree>) -> Option<NameAt<'a>>
+    ensures { option_map name_view result ≡ option_map free_view found }
 {
     let found = found?;
     Some(NameAt {

@@ -1,10 +1,10 @@
 //! The check of a program, before any pass changes it.
 ghost use Rattle.std.specs.Prelude.{◌≡◌, None, Some, OnOk, IfOk, IfErr};
 ghost use Rattle.oxt_check.specs.Captures.{name_view};
-ghost use Rattle.oxt_check.specs.Faults.{IsFaultOf, IsPlaceFault, captured_refusal, facts_of, first_fault, misplaced_refusal, place_fault, place_text, refusal_in};
+ghost use Rattle.oxt_check.specs.Faults.{IsFaultOf, IsThe, captured_refusal, code_fault, facts_by, facts_of, first_fault, misplaced_refusal, place_fault, place_text, refusal_in};
 ghost use Rattle.oxt_faults.specs.Misplaced.{misplaced_view};
 ghost use Rattle.oxt_options.specs.Options.{transform_view};
-ghost use Rattle.oxt_options.specs.Facts.{Answers};
+ghost use Rattle.oxt_options.specs.Facts.{Answers, is_in};
 ghost use Rattle.oxt_tree.specs.Names.{name_bytes};
 ghost use Rattle.oxt_tree.specs.View.{node_doc};
 
@@ -16,7 +16,8 @@ use oxt_enum_checks::wide::first_wide;
 use oxt_faults::misplaced::Misplaced;
 use oxt_inline::dropped::dropped_blocks;
 use oxt_inline::inlined::inlined_expressions;
-use oxt_modules::kept::kept_specifiers;
+use oxt_modules::kept::kept_nodes;
+use oxt_modules::nodes::NodeList;
 use oxt_options::TransformOptions;
 use oxt_options::lists::PlanLists;
 use oxt_options::plan::Plan;
@@ -30,8 +31,8 @@ use std::alloc::Global;
 
 /// What the passes ask of the nodes of a program, whose table of scopes and symbols is `scoping`.
 ///
-/// They ask which specifiers of imports and exports are kept, which blocks of enums come first or are dropped, and which
-/// expressions are inlined; the list of names that nothing writes to is empty so far.
+/// They ask what of imports and exports is kept, which blocks of enums and namespaces come first, which blocks of enums
+/// are dropped, and which expressions are inlined; the list of names that nothing writes to is empty so far.
 ///
 /// # Errors
 ///
@@ -46,26 +47,67 @@ pub fn check(
 ) -> Result<Plan, Fault>
     ensures plan { IfOk result
         (λ plan. Answers plan (facts_of scoping.now (node_doc program.now.root) (transform_view options.now))) }
-    ensures accepted { OnOk result (first_fault scoping.now (node_doc program.now.root) ≡ None) }
-    ensures refused { IfErr result (λ f. IsFaultOf (refusal_in f) scoping.now (node_doc program.now.root)) }
+    ensures accepted { OnOk result
+        (first_fault scoping.now (node_doc program.now.root) (transform_view options.now) ≡ None) }
+    ensures refused { IfErr result
+        (λ f. IsFaultOf (refusal_in f) scoping.now (node_doc program.now.root) (transform_view options.now)) }
 {
     if let Some(kind) = first_unbuilt(alloc, &program.root)? {
         return Err(Fault::Unbuilt { kind });
     }
-    if !program.root.is_definition_file() {
-        match check_places(alloc, &program.root, scoping) {
-            Ok(()) => {}
-            Err(fault) => return Err(fault),
-        }
+    let kept = kept_nodes(alloc, &program.root, scoping, &options.typescript)?;
+    check_kept(alloc, &program.root, scoping, kept, options)
+}
+
+/// Checks a program without forms that are not built yet, in which that is kept.
+fn check_kept(
+    alloc: Global,
+    program: &Node,
+    scoping: &Scoping,
+    kept: NodeList,
+    options: &TransformOptions,
+) -> Result<Plan, Fault>
+    ensures plan { IfOk result
+        (λ plan. Answers plan (facts_by kept scoping.now (node_doc program.now) (transform_view options.now))) }
+    ensures accepted { OnOk result (code_fault scoping.now (is_in kept) (node_doc program.now) ≡ None) }
+    ensures refused { IfErr result
+        (λ f. IsThe (refusal_in f) (code_fault scoping.now (is_in kept) (node_doc program.now))) }
+{
+    match check_code(alloc, program, scoping, &kept) {
+        Ok(()) => Ok(plan_by(alloc, program, scoping, kept, options)?),
+        Err(fault) => Err(fault),
     }
-    Ok(plan_of(alloc, &program.root, scoping, options)?)
+}
+
+/// Finds the first fault of a program in which that is kept, unless it is a file of definitions, of which nothing is left.
+fn check_code(
+    alloc: Global,
+    program: &Node,
+    scoping: &Scoping,
+    kept: &NodeList,
+) -> Result<(), Fault>
+    ensures accepted { OnOk result (code_fault scoping.now (is_in kept.now) (node_doc program.now) ≡ None) }
+    ensures refused { IfErr result
+        (λ f. IsThe (refusal_in f) (code_fault scoping.now (is_in kept.now) (node_doc program.now))) }
+{
+    if program.is_definition_file() {
+        Ok(())
+    } else {
+        check_places(alloc, program, scoping, kept)
+    }
 }
 
 /// Finds the first misplaced node, and else the first member whose constant would be too large, and else the first
-/// captured name.
-fn check_places(alloc: Global, program: &Node, scoping: &Scoping) -> Result<(), Fault>
-    ensures accepted { OnOk result (place_fault scoping.now (node_doc program.now) ≡ None) }
-    ensures refused { IfErr result (λ f. IsPlaceFault (refusal_in f) scoping.now (node_doc program.now)) }
+/// captured name, where that is kept.
+fn check_places(
+    alloc: Global,
+    program: &Node,
+    scoping: &Scoping,
+    kept: &NodeList,
+) -> Result<(), Fault>
+    ensures accepted { OnOk result (place_fault scoping.now (is_in kept.now) (node_doc program.now) ≡ None) }
+    ensures refused { IfErr result
+        (λ f. IsThe (refusal_in f) (place_fault scoping.now (is_in kept.now) (node_doc program.now))) }
 {
     if let Some(misplaced) = first_misplacement(alloc, program, scoping)? {
         return Err(misplaced_fault(alloc, program, misplaced)?);
@@ -73,7 +115,7 @@ fn check_places(alloc: Global, program: &Node, scoping: &Scoping) -> Result<(), 
     if let Some(member) = first_wide(program, scoping) {
         return Err(Fault::Wide { span: member.span });
     }
-    if let Some(captured) = first_capture(alloc, program, scoping)? {
+    if let Some(captured) = first_capture(alloc, program, scoping, kept)? {
         return Err(captured_fault(alloc, program, captured)?);
     }
     Ok(())
@@ -115,21 +157,22 @@ fn place_text(alloc: Global, program: &Node, number: NodeId) -> Result<Name, Out
     }
 }
 
-/// The plan for the program.
-fn plan_of(
+/// The plan for the program, in which that is kept.
+fn plan_by(
     alloc: Global,
     program: &Node,
     scoping: &Scoping,
+    kept: NodeList,
     options: &TransformOptions,
 ) -> Result<Plan, OutOfMemory>
     ensures { IfOk result
-        (λ plan. Answers plan (facts_of scoping.now (node_doc program.now) (transform_view options.now))) }
+        (λ plan. Answers plan (facts_by kept scoping.now (node_doc program.now) (transform_view options.now))) }
 {
     let typescript = &options.typescript;
     let mut lists = PlanLists::empty(alloc);
-    lists.kept = kept_specifiers(alloc, program, scoping, typescript)?;
     lists.first = first_blocks(alloc, program, scoping)?;
-    lists.inlined = inlined_expressions(alloc, program, scoping, typescript)?;
-    lists.dropped = dropped_blocks(alloc, program, scoping, typescript)?;
+    lists.inlined = inlined_expressions(alloc, program, scoping, &kept, typescript)?;
+    lists.dropped = dropped_blocks(alloc, program, scoping, &kept, typescript)?;
+    lists.kept = kept.into_nodes();
     Plan::new(alloc, lists)
 }

@@ -53,6 +53,8 @@ pub enum Mismatch {
     Item { index: usize },
     /// A name has not the owner that it had in the source: the first such, counted from 0 among the names that are used.
     Owner { index: usize },
+    /// A name that the source has not is not declared exactly once: the first such.
+    Binding { name: Name },
 }
 
 impl From<OutOfMemory> for Fault {
@@ -115,6 +117,7 @@ fn kind_text(kind: MisplacedKind) -> &'static str
 {
     match kind {
         MisplacedKind::Body => "body",
+        MisplacedKind::Namespace => "namespace",
         MisplacedKind::Merge => "merge",
         MisplacedKind::Enum => "enum",
         MisplacedKind::Decorator => "decorator",
@@ -146,5 +149,6 @@ fn uncertified_line(alloc: Global, mismatch: &Mismatch) -> Result<String, AllocE
         Mismatch::Setting { place } => named_line(alloc, "uncertified setting ", place.as_str()),
         Mismatch::Item { index } => format!(in alloc; "uncertified item {index}\n"),
         Mismatch::Owner { index } => format!(in alloc; "uncertified owner {index}\n"),
+        Mismatch::Binding { name } => named_line(alloc, "uncertified binding ", name.as_str()),
     }
 }

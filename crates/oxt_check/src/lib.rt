@@ -9,7 +9,10 @@ pub mod fault;
 pub mod laws;
 mod misplacement;
 mod push;
+mod seat;
+mod sight;
 pub mod targets;
+mod tell;
 mod wrapped;
 
 pub use check_program::check;

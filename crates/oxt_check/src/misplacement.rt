@@ -1,10 +1,11 @@
 //! The first misplaced node of a program, of all kinds.
 ghost use Rattle.std.specs.Prelude.{◌≡◌, IfOk, option_map};
-ghost use Rattle.oxt_check.specs.Misplacements.{first_misplacement, former, is_before, of_kind, rank};
+ghost use Rattle.oxt_check.specs.Misplacements.{first_misplacement, former, is_before, named_misplacement, of_kind, rank};
 ghost use Rattle.oxt_faults.specs.Misplaced.{misplaced_view};
 ghost use Rattle.oxt_tree.specs.View.{node_doc};
 
 use oxt_enum_checks::clash::first_clash;
+use oxt_enum_checks::late_base::first_late_base;
 use oxt_enum_checks::misnamed::first_misnamed;
 use oxt_faults::misplaced::{Misplaced, MisplacedKind, first_misplaced};
 use oxt_scoping::scoping::Scoping;
@@ -12,9 +13,10 @@ use oxt_tree::ids::{NodeId, OutOfMemory};
 use oxt_tree::tree::Node;
 use std::alloc::Global;
 
-/// The misplaced node of the least number: what stands where it may not, a declaration that does not merge with an earlier
-/// one of its name, and a member of an enum, or a bare name of one, that cannot be lowered. Of several kinds at one node it
-/// is the first in their order. `scoping` is the table of the program.
+/// The misplaced node of the least number: what stands where it may not, a function or class behind a namespace of its
+/// name, a declaration that does not merge with an earlier one of its name, and a member of an enum, or a bare name of
+/// one, that cannot be lowered. Of several kinds at one node it is the first in their order. `scoping` is the table of
+/// the program.
 ///
 /// # Errors
 ///
@@ -27,13 +29,27 @@ pub fn first_misplacement(
     ensures { IfOk result (λ found. option_map misplaced_view found
         ≡ first_misplacement scoping.now (node_doc program.now)) }
 {
+    let named = named_misplacement(alloc, program, scoping)?;
+    Ok(former(first_misplaced(program), named))
+}
+
+/// The first that names decide.
+fn named_misplacement(
+    alloc: Global,
+    program: &Node,
+    scoping: &Scoping,
+) -> Result<Option<Misplaced>, OutOfMemory>
+    ensures { IfOk result (λ found. option_map misplaced_view found
+        ≡ named_misplacement scoping.now (node_doc program.now)) }
+{
+    let late = first_late_base(alloc, program, scoping)?;
     let clash = first_clash(alloc, program, scoping)?;
     let misnamed = first_misnamed(alloc, program, scoping)?;
-    let of_enums = former(
+    let merged = former(
         of_kind(MisplacedKind::Merge, clash),
         of_kind(MisplacedKind::Enum, misnamed),
     );
-    Ok(former(first_misplaced(program), of_enums))
+    Ok(former(of_kind(MisplacedKind::Namespace, late), merged))
 }
 
 /// The node, as misplaced in that way.
@@ -75,8 +91,9 @@ fn rank(kind: MisplacedKind) -> u8
 {
     match kind {
         MisplacedKind::Body => 0,
-        MisplacedKind::Merge => 1,
-        MisplacedKind::Enum => 2,
-        MisplacedKind::Decorator => 3,
+        MisplacedKind::Namespace => 1,
+        MisplacedKind::Merge => 2,
+        MisplacedKind::Enum => 3,
+        MisplacedKind::Decorator => 4,
     }
 }

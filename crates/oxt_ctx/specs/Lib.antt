@@ -1,4 +1,5 @@
 pub mod Context
 pub mod Made
 pub mod Meant
+pub mod Nodes
 pub mod Text

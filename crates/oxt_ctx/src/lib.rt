@@ -7,5 +7,6 @@ pub mod bound;
 pub mod context;
 mod makers;
 pub mod maybe;
+pub mod nodes;
 pub mod text;
 pub mod uid;

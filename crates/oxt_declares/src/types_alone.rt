@@ -25,8 +25,9 @@ pub fn is_of_types(part: &Part) -> bool
     }
 }
 
+/// Whether the node is a statement of types alone: a namespace, or what may stand in one.
 #[cycle(types)]
-fn is_node_of_types(node: &Node) -> bool
+pub fn is_node_of_types(node: &Node) -> bool
     ensures { result ≡ is_of_types (node_doc node.now) }
 {
     match role_of(node.kind) {

@@ -1,10 +1,11 @@
--- In a program of which no block emits code nothing clashes.
+-- In a program of which no block emits code nothing clashes, and nothing stands behind a namespace.
 use Rattle.std.proofs.Common.{◌≡◌, ◌∙◌, refl, sym, ap, ℕ, zero, suc, List, [], ◌∷◌, Bool, true, false, ◌&&◌, ◌||◌, Option, None, Some, cond, true≢false}
 use Rattle.std.specs.List.{list_any}
 use Rattle.std.specs.Map.{lookup}
 use Rattle.std.specs.Option.{option_eq}
 use Rattle.std.specs.Prelude.{codes, find, is_some, nat_eq, option_map, slice_get, slice_index_or}
 use Rattle.oxt_enum_checks.specs.Clash.{first_clash, least_clash}
+use Rattle.oxt_enum_checks.specs.LateBase.{late_base, least_late}
 use Rattle.oxt_enum_checks.specs.Places.{Placed, places_of}
 use Rattle.oxt_enum_checks.specs.Sort.{is_block, sort_of}
 use Rattle.oxt_enum_checks.specs.Sought.{HasNoBlock, block_if, block_named, blocks_in, first_at, first_name, first_names, has_block, is_block_kind, is_emitting_block, is_first, is_sought, named_blocks, own_block}
@@ -74,3 +75,7 @@ no_blocks p s d h = none_in (named_blocks s (first_names p sought.Block s.symbol
 
 pub no_clash : (s : Scoped) (d : Doc) (b : Bool) → (b ≡ false → HasNoBlock s) → b ≡ false → None ≡ first_clash s d
 no_clash s d b none is = sym (ap (least_clash s (places_of d)) (no_blocks (places_of d) s d (none is)))
+
+-- and no function or class stands behind a namespace
+pub no_late : (s : Scoped) (d : Doc) (b : Bool) → (b ≡ false → HasNoBlock s) → b ≡ false → None ≡ late_base s d
+no_late s d b none is = sym (ap (least_late s (places_of d)) (no_blocks (places_of d) s d (none is)))

@@ -1,5 +1,6 @@
 pub mod Blockless
 pub mod Clashes
+pub mod Lates
 pub mod Leasts
 pub mod Memberless
 pub mod Names

@@ -2,6 +2,7 @@ pub mod Around
 pub mod Clash
 pub mod First
 pub mod Keys
+pub mod LateBase
 pub mod Members
 pub mod Misnamed
 pub mod Misused

@@ -82,7 +82,7 @@ fn least_clash(
 }
 
 /// The lesser one of two numbers, if there are two.
-fn lesser(first: Option<NodeId>, other: Option<NodeId>) -> Option<NodeId>
+pub(crate) fn lesser(first: Option<NodeId>, other: Option<NodeId>) -> Option<NodeId>
     ensures { option_map (λ node. node.0) result
         ≡ lesser (option_map (λ node. node.0) first) (option_map (λ node. node.0) other) }
 {
@@ -95,7 +95,7 @@ fn lesser(first: Option<NodeId>, other: Option<NodeId>) -> Option<NodeId>
 
 /// The declarations of the symbol that the node declares; none where it declares none.
 #[tactic(auto, using(crate::proofs::Symbols::declarations_found))]
-fn declarations_by(scoping: &Scoping, node: NodeId) -> &[Redeclaration]
+pub(crate) fn declarations_by(scoping: &Scoping, node: NodeId) -> &[Redeclaration]
     ensures { result.now ≡ declarations_of (declared_symbol scoping.now node.0) }
 {
     match scoping.symbol_of(node) {
@@ -118,7 +118,11 @@ fn clash_among(
 }
 
 /// The declarations that emit code.
-fn all_emitted(
+///
+/// # Errors
+///
+/// Nothing but want of memory.
+pub(crate) fn all_emitted(
     alloc: Global,
     places: &Places,
     declarations: &[Redeclaration],

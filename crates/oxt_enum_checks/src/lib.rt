@@ -5,6 +5,7 @@
 mod around;
 pub mod clash;
 pub mod first;
+pub mod late_base;
 mod members;
 pub mod misnamed;
 mod misused;

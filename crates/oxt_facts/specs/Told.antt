@@ -1,7 +1,8 @@
 -- What is told of the nodes of a source that are read otherwise than by the rules of their kinds: of the blocks of its
--- enums, of their members, of the bare names that mean members, of the expressions that are inlined, and of what goes:
--- blocks of enums that are dropped, imports, exports and specifiers.
-use Rattle.std.specs.Prelude.{ℕ, List, map, Bool, nat_eq, Option}
+-- enums, of their members, of the bare names that mean members, of the expressions that are inlined, of what goes (blocks of
+-- enums that are dropped, imports, exports and specifiers), of a program that is made strict, and of the specifiers of modules
+-- that are rewritten.
+use Rattle.std.specs.Prelude.{ℕ, List, map, Bool, nat_eq, Option, option_map}
 use Rattle.std.specs.Map.{lookup}
 use Rattle.oxt_facts.specs.declared.told.MemberValue.{MemberValue}
 use Rattle.oxt_facts.specs.declared.told.MemberValue.TheVariants as member_value
@@ -9,6 +10,8 @@ use Rattle.oxt_facts.specs.declared.told.Told.{Told}
 use Rattle.oxt_facts.specs.declared.told.Told.TheVariants as told
 use Rattle.oxt_facts.specs.declared.told.ToldBlock.{ToldBlock}
 use Rattle.oxt_facts.specs.declared.told.ToldMember.{ToldMember}
+use Rattle.oxt_facts.specs.declared.told.ToldName.{ToldName}
+use Rattle.oxt_facts.specs.declared.told.ToldNamespace.{ToldNamespace}
 use Rattle.oxt_names.specs.Constant.{Constant, constant_view}
 use Rattle.oxt_tree.specs.Names.{name_bytes}
 
@@ -38,9 +41,25 @@ pub record Member : Type 0 where
   pub value : Value
   pub is_reversed : Bool
 
--- what is told of a node: of a bare name, the name and the group of the enum whose member it means; of an expression
--- that is inlined, its constant; `gone`, that the node does nothing; `listless`, that it is an import that loses its whole
--- list and stays for what its module does
+-- a block of a namespace that becomes a function: its name, the group of that, the tag of the function's parameter, that of the
+-- block that exports it, if one does, and whether nothing of its name emits code before it
+pub record Namespace : Type 0 where
+  pub name : List ℕ
+  pub group : Option ℕ
+  pub tag : List ℕ
+  pub base : Option (List ℕ)
+  pub is_first : Bool
+
+-- names with their groups
+abbrev pub Names : Type 0
+Names = List (List ℕ × Option ℕ)
+
+-- what is told of a node: of a bare name, the name and the group of the enum whose member it means; of an expression that is
+-- inlined its constant, and of a specifier of a module that is rewritten its text; `gone`, that the node does nothing;
+-- `listless`, that it is an import that loses its whole list and stays for what its module does; `strict`, that it is a program
+-- before whose directives the one stands by which all its code is strict; `quasi`, the texts of a piece of a template; `export`,
+-- of an export in a namespace the tag of the block in which it stands, and the names that are put on the block's object behind
+-- it; `stored`, of a declarator that such an export holds, the tag and the name under which its value is put
 pub data Telling : Type 0 where
   block : Block → Telling
   member : Member → Telling
@@ -48,6 +67,11 @@ pub data Telling : Type 0 where
   inlined : Constant → Telling
   gone : Telling
   listless : Telling
+  strict : Telling
+  quasi : Option (List ℕ) → Option (List ℕ) → Telling
+  space : Namespace → Telling
+  export : List ℕ → Names → Telling
+  stored : List ℕ → List ℕ → Telling
 
 -- what is told of nodes, by their numbers
 abbrev pub Tellings : Type 0
@@ -69,6 +93,12 @@ block_view b = record { name = name_bytes b.name; group = b.group; node = b.node
 abbrev pub member_view : ToldMember → Member
 member_view m = record { owner = name_bytes m.owner; block = m.block; name = name_bytes m.name; value = value_view m.value; is_reversed = m.is_reversed }
 
+abbrev pub namespace_view : ToldNamespace → Namespace
+namespace_view s = record { name = name_bytes s.name; group = s.group; tag = name_bytes s.tag; base = option_map name_bytes s.base; is_first = s.is_first }
+
+abbrev pub names_view : List ToldName → Names
+names_view ns = map (λ n. (name_bytes n.name, n.group)) ns
+
 abbrev pub told_view : Told → Telling
 told_view (told.Block b) = block (block_view b)
 told_view (told.Member m) = member (member_view m)
@@ -76,6 +106,11 @@ told_view (told.Bare name group) = bare (name_bytes name) group
 told_view (told.Inlined c) = inlined (constant_view c)
 told_view told.Gone = gone
 told_view told.Listless = listless
+told_view told.Strict = strict
+told_view (told.Quasi q) = quasi (option_map name_bytes q.raw) (option_map name_bytes q.cooked)
+told_view (told.Namespace s) = space (namespace_view s)
+told_view (told.Export e) = export (name_bytes e.tag) (names_view e.names.items)
+told_view (told.Stored s) = stored (name_bytes s.tag) (name_bytes s.name)
 
 abbrev pub told_views : List (ℕ × Told) → Tellings
 told_views es = map (λ e. (e.0, told_view e.1)) es

@@ -53,6 +53,53 @@ pub struct ToldMember {
     pub is_reversed: bool,
 }
 
+/// What is told of a piece of a template: its texts, as they are written and as they are meant.
+#[derive(Debug, Drop)]
+pub struct ToldQuasi {
+    pub raw: Option<Name>,
+    pub cooked: Option<Name>,
+}
+
+/// What is told of a block of a namespace that becomes a function.
+#[derive(Debug, Drop)]
+pub struct ToldNamespace {
+    /// The namespace's name.
+    pub name: Name,
+    /// The group of that name.
+    pub group: Option<u64>,
+    /// The tag of the function's parameter.
+    pub tag: Name,
+    /// The tag of the block that exports it, if one does.
+    pub base: Option<Name>,
+    /// Whether nothing of its name emits code before it.
+    pub is_first: bool,
+}
+
+/// A name with its group.
+#[derive(Debug, Drop)]
+pub struct ToldName {
+    pub name: Name,
+    pub group: Option<u64>,
+}
+
+/// What is told of an export in a namespace.
+#[derive(Debug, Drop)]
+pub struct ToldExport {
+    /// The tag of the block in which it stands.
+    pub tag: Name,
+    /// The names that are put on that block's object behind it.
+    pub names: Vec<ToldName>,
+}
+
+/// What is told of a declarator that an export in a namespace holds.
+#[derive(Debug, Drop)]
+pub struct ToldStored {
+    /// The tag of the block in which it stands.
+    pub tag: Name,
+    /// The name under which its value is put on that block's object.
+    pub name: Name,
+}
+
 /// What is told of a node.
 #[derive(Debug, Drop)]
 pub enum Told {
@@ -62,13 +109,23 @@ pub enum Told {
     Member(ToldMember),
     /// It is a bare name that means a member of the enum of that name, which has that group.
     Bare(Name, Option<u64>),
-    /// It is an expression in whose place the constant stands.
+    /// It is an expression, or the specifier of a module, in whose place the constant stands.
     Inlined(ConstantValue),
-    /// It does nothing: a block of an enum that is dropped, an import or an export that is removed, or a specifier that
-    /// is not kept.
+    /// It does nothing: a block of an enum that is dropped, an import or an export that is removed, or a specifier or an
+    /// `import =` that is not kept.
     Gone,
     /// It is an import that loses its whole list, and stays for what its module does.
     Listless,
+    /// It is a program before whose directives the one stands by which all its code is strict.
+    Strict,
+    /// It is a piece of a template, which has these texts.
+    Quasi(ToldQuasi),
+    /// It is a block of a namespace.
+    Namespace(ToldNamespace),
+    /// It is an export in a namespace.
+    Export(ToldExport),
+    /// It is a declarator whose value is put on the object of a namespace too.
+    Stored(ToldStored),
 }
 
 /// What is told of nodes, by their numbers.

@@ -70,23 +70,35 @@ pub emitting_mark : (s : Scoped) (bs : List Bool) (b : Bool) (i : SymbolId) (o :
 emitting_mark s bs b i o are found is = is ∙ ap (λ cs. mark_at cs i) are ∙ emitting_at s.symbols i.0 ∙ ap (λ p. is_emitted (symbol_at s.symbols p)) found
 
 -- that it is captured
-captured_mark : (s : Scoped) (n : ℕ) (ys : List SymbolData) (i : ℕ)
-    → cond (slice_index_or (map (is_captured s) ys) i false) (option_map (use_of n) (slice_get ys i)) None ≡ captured_as s n (slice_get ys i)
-captured_mark s n [] i = refl
-captured_mark s n (y ∷ ys) zero = refl
-captured_mark s n (y ∷ ys) (suc i) = captured_mark s n ys i
+captured_mark : (s : Scoped) (ls : ℕ → Bool) (n : ℕ) (ys : List SymbolData) (i : ℕ)
+    → cond (slice_index_or (map (is_captured s ls) ys) i false) (option_map (use_of n) (slice_get ys i)) None ≡ captured_as s ls n (slice_get ys i)
+captured_mark s ls n [] i = refl
+captured_mark s ls n (y ∷ ys) zero = refl
+captured_mark s ls n (y ∷ ys) (suc i) = captured_mark s ls n ys i
 
-captured_so : (s : Scoped) (n : ℕ) (o : Option SymbolId) → marked_as s (captured_symbols s) n o ≡ captured_as s n (symbol_at s.symbols o)
-captured_so s n None = refl
-captured_so s n (Some i) = captured_mark s n s.symbols i.0
+captured_so : (s : Scoped) (ls : ℕ → Bool) (n : ℕ) (o : Option SymbolId) → marked_as s (captured_symbols s ls) n o ≡ captured_as s ls n (symbol_at s.symbols o)
+captured_so s ls n None = refl
+captured_so s ls n (Some i) = captured_mark s ls n s.symbols i.0
 
 -- What is marked so is sought.
-same_sought : (s : Scoped) → marked s (captured_symbols s) ≡ spec.sought s
-same_sought s = λ j. record {
-  at = λ u k i ds. cond (is_dropped_by k ds) None (captured_so s i (value_meant s i) j);
-  inside = (spec.sought s).inside;
-  in_field = (spec.sought s).in_field;
+same_sought : (s : Scoped) (ls : ℕ → Bool) → marked s (captured_symbols s ls) ≡ spec.sought s ls
+same_sought s ls = λ j. record {
+  at = λ u k i ds. cond (is_dropped_by k ds) None (captured_so s ls i (value_meant s i) j);
+  inside = (spec.sought s ls).inside;
+  in_field = (spec.sought s ls).in_field;
 }
 
-pub marked_found : (s : Scoped) (bs : List Bool) (d : Doc) (found : Option Capture) → bs ≡ captured_symbols s → found ≡ first_in (marked s bs) d tt → found ≡ captured s d
-marked_found s bs d found are is = is ∙ ap (λ cs. first_in (marked s cs) d tt) are ∙ ap (λ q. first_in q d tt) (same_sought s)
+pub marked_found : (s : Scoped) (ls : ℕ → Bool) (bs : List Bool) (d : Doc) (found : Option Capture) → bs ≡ captured_symbols s ls → found ≡ first_in (marked s bs) d tt → found ≡ captured s ls d
+marked_found s ls bs d found are is = is ∙ ap (λ cs. first_in (marked s cs) d tt) are ∙ ap (λ q. first_in q d tt) (same_sought s ls)
+
+-- ---- names that scopes have
+
+emitted_is : (y : Option SymbolData) (ds : List Redeclaration) → option_map (λ (z : SymbolData). z.declarations) y ≡ Some ds → emits ds ≡ is_emitted y
+emitted_is None ds h = absurd (cc)
+emitted_is (Some y) ds h = let same : y.declarations ≡ ds = cc in ap emits (sym same)
+
+-- a declaration of the symbol that a scope binds the name to emits code
+pub taken_so : (s : Scoped) (i : SymbolId) (o : Option SymbolId) (ds : List Redeclaration) (b : Bool) → Some i ≡ o → option_map (λ (z : SymbolData). z.declarations) (slice_get s.symbols i.0) ≡ Some ds → b ≡ emits ds → b ≡ is_emitted (symbol_at s.symbols o)
+taken_so s i o ds b found are is = is ∙ emitted_is (slice_get s.symbols i.0) ds are ∙ ap (λ p. is_emitted (symbol_at s.symbols p)) found
+
+pub ruleset taken_steps = (taken_so)

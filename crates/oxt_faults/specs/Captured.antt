@@ -62,9 +62,14 @@ emits_from (suc n) s t (Some i) = emits_at s t i || emits_from n s t (around (sl
 abbrev pub emits_outside : Scoped → List ℕ → ScopeId → Bool
 emits_outside s t i = emits_from i.0 s t (around (slice_get s.scopes i.0))
 
--- No declaration of the symbol emits code, while its name means one that does in a scope further out.
-abbrev pub is_captured : Scoped → SymbolData → Bool
-is_captured s y = not (emits y.declarations) && emits_outside s y.name y.scope
+-- one of the declarations emits code and is none of those that are left out, which are known by the nodes of their names
+abbrev pub emits_beside : (ℕ → Bool) → List Redeclaration → Bool
+emits_beside ls ds = list_any (λ d. d.emits && not (ls d.node.0)) ds
+
+-- No declaration of the symbol emits code, but for those that are left out, while its name means one that does in a scope
+-- further out.
+abbrev pub is_captured : Scoped → (ℕ → Bool) → SymbolData → Bool
+is_captured s ls y = not (emits_beside ls y.declarations) && emits_outside s y.name y.scope
 
 -- ---- references
 
@@ -87,25 +92,26 @@ abbrev pub value_meant : Scoped → ℕ → Option SymbolId
 value_meant s n = meant_by_number s (still s.references (at_node (record { 0 = n }) s.named))
 
 -- the node, where the symbol that it means is captured
-abbrev pub captured_as : Scoped → ℕ → Option SymbolData → Option Capture
-captured_as s n None = None
-captured_as s n (Some y) = if is_captured s y then Some (record { node = n; name = y.name }) else None
+abbrev pub captured_as : Scoped → (ℕ → Bool) → ℕ → Option SymbolData → Option Capture
+captured_as s ls n None = None
+captured_as s ls n (Some y) = if is_captured s ls y then Some (record { node = n; name = y.name }) else None
 
 -- the node with that number, if it is a captured name
-abbrev pub captured_at : Scoped → ℕ → Option Capture
-captured_at s n = captured_as s n (symbol_at s.symbols (value_meant s n))
+abbrev pub captured_at : Scoped → (ℕ → Bool) → ℕ → Option Capture
+captured_at s ls n = captured_as s ls n (symbol_at s.symbols (value_meant s n))
 
 -- ---- trees
 
 -- outside what is erased, each node that is a captured name
-abbrev pub sought : Scoped → Sought (Unit {0}) Capture
-sought s =
+abbrev pub sought : Scoped → (ℕ → Bool) → Sought (Unit {0}) Capture
+sought s ls =
     record {
-      at = λ u k i ds. if is_dropped_by k ds then None else captured_at s i;
+      at = λ u k i ds. if is_dropped_by k ds then None else captured_at s ls i;
       inside = λ u k i ds. if is_dropped_by k ds then inside.Skipped else inside.Alike u;
       in_field = λ u k r. Some u;
     }
 
--- the first captured name of a whole tree: a node stands before those in it
-abbrev pub captured : Scoped → Doc → Option Capture
-captured s d = first_in (sought s) d tt
+-- The first captured name of a whole tree, of which the declarations with these names are left out: a node stands before
+-- those in it.
+abbrev pub captured : Scoped → (ℕ → Bool) → Doc → Option Capture
+captured s ls d = first_in (sought s ls) d tt

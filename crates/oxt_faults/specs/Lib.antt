@@ -1,8 +1,10 @@
 pub mod Captured
+pub mod Free
 pub mod Initializers
 pub mod Level
 pub mod Marks
 pub mod Misplaced
+pub mod Namespaces
 pub mod Reaches
 pub mod Seats
 pub mod Silent

@@ -12,9 +12,9 @@ use Rattle.oxt_unbuilt.specs.Dropped.{is_dropped_by}
 abbrev pub emitting_symbols : Scoped → List Bool
 emitting_symbols s = map (λ y. emits y.declarations) s.symbols
 
--- of each symbol whether it is captured
-abbrev pub captured_symbols : Scoped → List Bool
-captured_symbols s = map (is_captured s) s.symbols
+-- of each symbol whether it is captured, where the declarations with these names are left out
+abbrev pub captured_symbols : Scoped → (ℕ → Bool) → List Bool
+captured_symbols s ls = map (is_captured s ls) s.symbols
 
 -- what is noted of the symbol
 abbrev pub mark_at : List Bool → SymbolId → Bool

@@ -7,6 +7,7 @@ use Rattle.oxt_faults.specs.declared.misplaced.MisplacedKind.{MisplacedKind}
 use Rattle.oxt_faults.specs.declared.misplaced.MisplacedKind.TheVariants as misplaced_kind
 use Rattle.oxt_faults.specs.declared.seat.Seat.{Seat}
 use Rattle.oxt_faults.specs.declared.seat.Seat.TheVariants as seat
+use Rattle.oxt_modules.specs.Aliases.{is_alias}
 use Rattle.oxt_search.specs.First.{first_in}
 use Rattle.oxt_search.specs.Sought.{Sought}
 use Rattle.oxt_search.specs.declared.search.Inside.{Inside}
@@ -18,6 +19,7 @@ use Rattle.oxt_grammar.specs.declared.kind.Kind.{Kind}
 use Rattle.oxt_grammar.specs.declared.kind.Kind.TheVariants as kind
 use Rattle.oxt_tree.specs.Doc.{Doc, Docs}
 use Rattle.oxt_tree.specs.Fields.{is_set, named}
+use Rattle.oxt_tree.specs.Syntax.{is_type_only}
 use Rattle.oxt_unbuilt.specs.Dropped.{is_dropped_by}
 
 -- a declaration of a kind that only TypeScript has, or one with `declare`
@@ -48,6 +50,27 @@ is_misplaced_body seat.Branch k ds = is_statement_list k ds
 is_misplaced_body seat.Head k ds = is_declared_variable k ds
 is_misplaced_body s k ds = false
 
+-- a namespace that is not erased
+abbrev pub is_emitting_namespace : Kind → Docs → Bool
+is_emitting_namespace k ds = same_kind k kind.TSNamespaceDeclaration && not (is_dropped_by k ds)
+
+-- the kinds of imports and exports that only a module has, which is all but the export of a declaration
+abbrev pub module_kinds : List Kind
+module_kinds =
+    kind.ImportDeclaration ∷ kind.ExportNamedDeclaration ∷ kind.ExportFromDeclaration ∷
+    kind.ExportAllDeclaration ∷ kind.ExportDefaultDeclaration ∷ kind.TSExportAssignment ∷ []
+
+-- such an import or export that is not of types alone
+abbrev pub is_module_statement : Kind → Docs → Bool
+is_module_statement k ds = list_any (λ j. same_kind k j) module_kinds && not (is_type_only k ds)
+
+-- In a seat: an import or export of a module as a statement of a namespace, and a namespace or an `import =` that emits
+-- code where it stands neither in the program nor in a namespace directly.
+abbrev pub is_misplaced_item : Seat → Kind → Docs → Bool
+is_misplaced_item seat.Item k ds = false
+is_misplaced_item seat.NamespaceItem k ds = is_module_statement k ds
+is_misplaced_item s k ds = is_alias k ds || is_emitting_namespace k ds
+
 -- a decorator of a parameter, which has none where decorators are the standard ones
 abbrev pub is_misplaced_decorator : Seat → Kind → Bool
 is_misplaced_decorator seat.ParameterDecorator k = same_kind k kind.Decorator
@@ -57,12 +80,13 @@ is_misplaced_decorator s k = false
 -- the names of the program decide them.
 abbrev pub is_misplaced : Seat → Kind → Docs → MisplacedKind → Bool
 is_misplaced s k ds misplaced_kind.Body = is_misplaced_body s k ds
+is_misplaced s k ds misplaced_kind.Namespace = is_misplaced_item s k ds
 is_misplaced s k ds misplaced_kind.Decorator = is_misplaced_decorator s k
 is_misplaced s k ds m = false
 
 -- the order in which the kinds are answered at one node
 abbrev pub misplaced_kinds : List MisplacedKind
-misplaced_kinds = misplaced_kind.Body ∷ misplaced_kind.Decorator ∷ []
+misplaced_kinds = misplaced_kind.Body ∷ misplaced_kind.Namespace ∷ misplaced_kind.Decorator ∷ []
 
 -- what is wrong, and the number of the node
 abbrev pub Misplacement : Type 0

@@ -2,6 +2,7 @@
 ghost use Rattle.std.specs.Prelude.{◌≡◌, IfOk, option_map};
 ghost use Rattle.oxt_faults.specs.Captured.{Capture, captured, capture_view, value_meant};
 ghost use Rattle.oxt_faults.specs.Marks.{captured_symbols, marked, marked_at};
+ghost use Rattle.oxt_options.specs.Facts.{is_in};
 ghost use Rattle.oxt_search.specs.First.{first_in};
 ghost use Rattle.oxt_tree.specs.View.{node_doc};
 
@@ -9,6 +10,7 @@ use crate::outside::{captured_symbols, mark_at};
 use bitflags::Flags;
 use oxt_grammar::holds::Row;
 use oxt_grammar::kind::Kind;
+use oxt_modules::nodes::NodeList;
 use oxt_names::flags::ReferenceFlags;
 use oxt_names::ids::SymbolId;
 use oxt_scoping::scoping::Scoping;
@@ -30,8 +32,8 @@ pub struct CapturedName<'a> {
 }
 
 /// The first name in the program that would change its owner, outside what is erased: one that is used
-/// as a value and means a symbol of which no declaration emits code, while a scope further out binds
-/// the same name to a symbol that does.
+/// as a value and means a symbol of which no declaration emits code, but for those whose names are left out, while a scope
+/// further out binds the same name to a symbol that does.
 ///
 /// # Errors
 ///
@@ -40,10 +42,12 @@ pub fn first_captured<'a>(
     alloc: Global,
     program: &Node,
     scoping: &'a Scoping,
+    left_out: &NodeList,
 ) -> Result<Option<CapturedName<'a>>, OutOfMemory>
-    ensures { IfOk result (λ found. option_map capture_view found ≡ captured scoping.now (node_doc program.now)) }
+    ensures { IfOk result (λ found. option_map capture_view found
+        ≡ captured scoping.now (is_in left_out.now) (node_doc program.now)) }
 {
-    let marks = captured_symbols(alloc, scoping)?;
+    let marks = captured_symbols(alloc, scoping, left_out)?;
     Ok(first_marked(program, scoping, marks.as_slice()))
 }
 

@@ -1,10 +1,10 @@
 //! The first word at the level of an initializer of a member of an enum that stays as written.
 ghost use Rattle.std.specs.Prelude.{◌≡◌, IfOk, map, option_map};
 ghost use Rattle.oxt_faults.specs.Initializers.{initializer_word, is_constant, is_written, least, lesser, own_word, sought};
-ghost use Rattle.oxt_faults.specs.Level.{LevelWordAt, found_view, level_word};
-ghost use Rattle.oxt_tree.specs.View.{doc_or_nil, docs_in, node_doc};
+ghost use Rattle.oxt_faults.specs.Level.{LevelWordAt, found_view};
+ghost use Rattle.oxt_tree.specs.View.{docs_in, node_doc};
 
-use crate::level::{FoundWord, first_level_word, first_level_word_in};
+use crate::level::{FoundWord, first_level_word_at};
 use oxt_grammar::field::Field;
 use oxt_grammar::holds::Row;
 use oxt_grammar::kind::Kind;
@@ -12,7 +12,7 @@ use oxt_scoping::scoping::Scoping;
 use oxt_search::all::all_in;
 use oxt_search::search::{Inside, Search, Visit};
 use oxt_tree::ids::{NodeId, OutOfMemory};
-use oxt_tree::tree::{Node, Part};
+use oxt_tree::tree::Node;
 use oxt_unbuilt::dropped::is_dropped;
 use std::alloc::Global;
 
@@ -105,7 +105,7 @@ fn own_word(scoping: &Scoping, node: &Node) -> Option<FoundWord>
         ≡ own_word scoping.now node.now.kind node.now.id.0 (docs_in node.now.parts.items) }
 {
     if is_written(scoping, node) {
-        word_in(node.field(Field::Initializer))
+        first_level_word_at(node.field(Field::Initializer))
     } else {
         None
     }
@@ -125,16 +125,5 @@ fn is_constant(scoping: &Scoping, member: NodeId) -> bool
     match scoping.symbol_of(member) {
         Some(symbol) => scoping.get_enum_member_value(symbol).is_some(),
         None => false,
-    }
-}
-
-/// The first word at the level of the part, if there is one.
-fn word_in(part: Option<&Part>) -> Option<FoundWord>
-    ensures { option_map found_view result ≡ level_word (doc_or_nil part.entry) }
-{
-    match part {
-        Some(Part::Node(node)) => first_level_word(node),
-        Some(Part::List(parts)) => first_level_word_in(parts),
-        _ => None,
     }
 }

@@ -1,7 +1,7 @@
 //! The first word at the level of a piece of code.
 ghost use Rattle.std.specs.Prelude.{◌≡◌, option_map};
 ghost use Rattle.oxt_faults.specs.Level.{LevelWordAt, at_level, found_at, found_view, level_word, level_words, owns_await, sought};
-ghost use Rattle.oxt_tree.specs.View.{docs_in, node_doc};
+ghost use Rattle.oxt_tree.specs.View.{doc_or_nil, docs_in, node_doc};
 
 use crate::reach::{Reach, reach_of};
 use crate::silent::is_silent;
@@ -46,6 +46,17 @@ pub fn first_level_word_in(parts: &[Part]) -> Option<FoundWord>
     ensures { option_map found_view result ≡ level_words (docs_in parts.now) }
 {
     first_among(&LevelWords, parts, at_level())
+}
+
+/// The first word at the level of the part, if there is one.
+pub fn first_level_word_at(part: Option<&Part>) -> Option<FoundWord>
+    ensures { option_map found_view result ≡ level_word (doc_or_nil part.entry) }
+{
+    match part {
+        Some(Part::Node(node)) => first_level_word(node),
+        Some(Part::List(parts)) => first_level_word_in(parts),
+        _ => None,
+    }
 }
 
 /// Code at the level itself.

@@ -3,9 +3,11 @@
 #![tactic(auto)]
 
 pub mod captured;
+pub mod free;
 pub mod initializer;
 pub mod level;
 pub mod misplaced;
+pub mod namespace;
 mod outside;
 mod reach;
 mod rules;

@@ -4,7 +4,8 @@
 //! at whose place it is answered: a variant of `MisplacedKind`, its place in the list `misplaced_kinds`, and its arm in
 //! `is_misplaced`, in `rules` and with the same names in specs/Misplaced.antt; its word on the line of standard error is
 //! in `kind_text` of `oxt_check`. What the test has to know of the nodes around is handed down in the state of the
-//! search, `Seat`. `Merge` and `Enum`, which the table of names decides, are found by `oxt_enum_checks`.
+//! search, `Seat`. `Merge` and `Enum`, and a function or a class behind a namespace of its name, which the table of names
+//! decides, are found by `oxt_enum_checks`.
 ghost use Rattle.std.specs.Prelude.{◌≡◌, find, option_map};
 ghost use Rattle.oxt_faults.specs.Misplaced.{Misplacement, is_misplaced, misplaced, misplaced_at, misplaced_kinds, misplaced_view, sought};
 ghost use Rattle.oxt_tree.specs.View.{docs_in, node_doc};
@@ -24,6 +25,9 @@ use oxt_unbuilt::dropped::is_dropped;
 pub enum MisplacedKind {
     /// It stands as the only statement of a label, a branch, a loop or `with`, or in the head of a `for`.
     Body,
+    /// It is a namespace or an `import =` that stands neither in the program nor in a namespace directly, an import or an
+    /// export in a namespace, or a function or a class behind a namespace of its name.
+    Namespace,
     /// It declares a name that an enum has, and does not merge with it.
     Merge,
     /// It is a member whose name is not its own, or a bare name of one where its value cannot stand.

@@ -1,21 +1,27 @@
 //! Symbols that emit code, and names that scopes further out bind to such.
 ghost use Rattle.std.specs.Prelude.{◌≡◌, ◌<◌, IfOk, IfSome, Some, length, option_map, slice_get};
-ghost use Rattle.oxt_faults.specs.Captured.{emits, emits_at, emits_from, emits_outside, is_captured};
+ghost use Rattle.oxt_faults.specs.Captured.{emits, emits_at, emits_beside, emits_from, emits_outside, is_captured};
+ghost use Rattle.oxt_options.specs.Facts.{is_in};
 ghost use Rattle.oxt_faults.specs.Marks.{captured_symbols, emitting_symbols, mark_at};
 
+use oxt_modules::nodes::NodeList;
 use oxt_names::ids::{ScopeId, SymbolId};
 use oxt_scoping::entry::Redeclaration;
 use oxt_scoping::scoping::Scoping;
 use oxt_tree::ids::OutOfMemory;
 use std::alloc::Global;
 
-/// Of each symbol whether no declaration of it emits code, while its name means one that does in a
-/// scope further out.
-pub fn captured_symbols(alloc: Global, scoping: &Scoping) -> Result<Vec<bool>, OutOfMemory>
-    ensures { IfOk result (λ marks. marks.items ≡ captured_symbols scoping.now) }
+/// Of each symbol whether no declaration of it emits code, but for those whose names are left out, while its name means one
+/// that does in a scope further out.
+pub fn captured_symbols(
+    alloc: Global,
+    scoping: &Scoping,
+    left_out: &NodeList,
+) -> Result<Vec<bool>, OutOfMemory>
+    ensures { IfOk result (λ marks. marks.items ≡ captured_symbols scoping.now (is_in left_out.now)) }
 {
     let emitting = emitting_symbols(alloc, scoping)?;
-    captured_among(alloc, scoping, emitting.as_slice())
+    captured_among(alloc, scoping, left_out, emitting.as_slice())
 }
 
 /// Of each symbol whether one of its declarations emits code.
@@ -36,14 +42,15 @@ fn emitting_symbols(alloc: Global, scoping: &Scoping) -> Result<Vec<bool>, OutOf
 fn captured_among(
     alloc: Global,
     scoping: &Scoping,
+    left_out: &NodeList,
     emitting: &[bool],
 ) -> Result<Vec<bool>, OutOfMemory>
     requires { emitting.now ≡ emitting_symbols scoping.now }
-    ensures { IfOk result (λ marks. marks.items ≡ captured_symbols scoping.now) }
+    ensures { IfOk result (λ marks. marks.items ≡ captured_symbols scoping.now (is_in left_out.now)) }
 {
     let mut marks = Vec::new(alloc);
     while scoping.has_symbol(SymbolId(marks.len() as u64)) {
-        let mark = is_captured(scoping, emitting, SymbolId(marks.len() as u64));
+        let mark = is_captured(scoping, left_out, emitting, SymbolId(marks.len() as u64));
         marks.push(mark)?;
     }
     Ok(marks)
@@ -65,16 +72,16 @@ fn is_emitting(scoping: &Scoping, symbol: SymbolId) -> bool
     emits(scoping.symbol_redeclarations(symbol))
 }
 
-/// Whether no declaration of the symbol emits code, while its name means one that does in a scope
-/// further out.
-fn is_captured(scoping: &Scoping, emitting: &[bool], symbol: SymbolId) -> bool
+/// Whether no declaration of the symbol emits code, but for those that are left out, while its name means one that does in
+/// a scope further out.
+fn is_captured(scoping: &Scoping, left_out: &NodeList, emitting: &[bool], symbol: SymbolId) -> bool
     requires number { symbol.0 < length scoping.now.symbols }
     requires marks { emitting.now ≡ emitting_symbols scoping.now }
-    ensures { option_map (is_captured scoping.now) (slice_get scoping.now.symbols symbol.0) ≡ Some result }
+    ensures { option_map (is_captured scoping.now (is_in left_out.now)) (slice_get scoping.now.symbols symbol.0) ≡ Some result }
 {
     let name = scoping.symbol_name(symbol);
     let scope = scoping.symbol_scope_id(symbol);
-    !emits(scoping.symbol_redeclarations(symbol))
+    !emits_beside(left_out, scoping.symbol_redeclarations(symbol))
         && is_emitted_outside(scoping, emitting, scope, name.as_str())
 }
 
@@ -127,8 +134,15 @@ fn binds_emitted(scoping: &Scoping, emitting: &[bool], scope: ScopeId, name: &st
     }
 }
 
+/// Whether one of the declarations emits code and is none of those that are left out.
+fn emits_beside(left_out: &NodeList, declarations: &[Redeclaration]) -> bool
+    ensures { result ≡ emits_beside (is_in left_out.now) declarations.now }
+{
+    declarations.iter().any(|declaration| declaration.emits && !left_out.has(declaration.node))
+}
+
 /// Whether one of the declarations emits code.
-fn emits(declarations: &[Redeclaration]) -> bool
+pub fn emits(declarations: &[Redeclaration]) -> bool
     ensures { result ≡ emits declarations.now }
 {
     declarations.iter().any(|declaration| declaration.emits)

@@ -1,7 +1,7 @@
 //! Which nodes may not stand in a seat.
 ghost use Rattle.std.specs.Prelude.{◌≡◌};
 ghost use Rattle.std.specs.List.{list_any};
-ghost use Rattle.oxt_faults.specs.Misplaced.{is_declared_variable, is_misplaced, is_misplaced_body, is_misplaced_decorator, is_statement_list, is_typescript_declaration, list_kinds, misplaced_kinds};
+ghost use Rattle.oxt_faults.specs.Misplaced.{is_declared_variable, is_emitting_namespace, is_misplaced, is_misplaced_body, is_misplaced_decorator, is_misplaced_item, is_module_statement, is_statement_list, is_typescript_declaration, list_kinds, misplaced_kinds, module_kinds};
 ghost use Rattle.oxt_grammar.specs.Places.{same_kind};
 ghost use Rattle.oxt_tree.specs.View.{docs_in};
 
@@ -10,6 +10,7 @@ use crate::seat::Seat;
 use oxt_grammar::category::Category;
 use oxt_grammar::field::Field;
 use oxt_grammar::kind::Kind;
+use oxt_modules::alias::is_alias;
 use oxt_tree::tree::Node;
 use oxt_unbuilt::dropped::is_dropped;
 
@@ -17,7 +18,11 @@ use oxt_unbuilt::dropped::is_dropped;
 pub fn misplaced_kinds() -> &'static [MisplacedKind]
     ensures { result.now ≡ misplaced_kinds }
 {
-    &[MisplacedKind::Body, MisplacedKind::Decorator]
+    &[
+        MisplacedKind::Body,
+        MisplacedKind::Namespace,
+        MisplacedKind::Decorator,
+    ]
 }
 
 /// Whether the node is misplaced in that seat, by kind; never in a kind that the table of names decides.
@@ -26,6 +31,7 @@ pub fn is_misplaced(kind: MisplacedKind, seat: Seat, node: &Node) -> bool
 {
     match kind {
         MisplacedKind::Body => is_misplaced_body(seat, node),
+        MisplacedKind::Namespace => is_misplaced_item(seat, node),
         MisplacedKind::Decorator => is_misplaced_decorator(seat, node),
         MisplacedKind::Merge => false,
         MisplacedKind::Enum => false,
@@ -42,6 +48,53 @@ fn is_misplaced_body(seat: Seat, node: &Node) -> bool
         Seat::Head => is_declared_variable(node),
         _ => false,
     }
+}
+
+/// Whether the node is a namespace or an `import =` that stands neither in the program nor in a namespace directly, or an
+/// import or an export that stands in a namespace.
+fn is_misplaced_item(seat: Seat, node: &Node) -> bool
+    ensures { result ≡ is_misplaced_item seat node.now.kind (docs_in node.now.parts.items) }
+{
+    match seat {
+        Seat::Item => false,
+        Seat::NamespaceItem => is_module_statement(node),
+        _ => is_alias(node) || is_emitting_namespace(node),
+    }
+}
+
+/// Whether the node is a namespace that is not erased.
+fn is_emitting_namespace(node: &Node) -> bool
+    ensures { result ≡ is_emitting_namespace node.now.kind (docs_in node.now.parts.items) }
+{
+    node.kind.is(Kind::TSNamespaceDeclaration) && !is_dropped(node)
+}
+
+/// Whether the node is an import or an export that only a module has, and not of types alone.
+fn is_module_statement(node: &Node) -> bool
+    ensures { result ≡ is_module_statement node.now.kind (docs_in node.now.parts.items) }
+{
+    is_module_kind(node.kind) && !node.is_type_only()
+}
+
+/// Whether nodes of the kind are such imports and exports.
+fn is_module_kind(kind: Kind) -> bool
+    ensures { result ≡ list_any (λ other. same_kind kind other) module_kinds }
+{
+    module_kinds().iter().any(|other| kind.is(*other))
+}
+
+/// The kinds of such imports and exports.
+fn module_kinds() -> &'static [Kind]
+    ensures { result.now ≡ module_kinds }
+{
+    &[
+        Kind::ImportDeclaration,
+        Kind::ExportNamedDeclaration,
+        Kind::ExportFromDeclaration,
+        Kind::ExportAllDeclaration,
+        Kind::ExportDefaultDeclaration,
+        Kind::TSExportAssignment,
+    ]
 }
 
 /// Whether the node decorates a parameter, which has no decorators where they are the standard ones.

@@ -19,6 +19,10 @@ pub enum Seat {
     Head,
     /// A decorator of a parameter.
     ParameterDecorator,
+    /// A statement of the program, what an export declares, or what stands behind the dot of a namespace.
+    Item,
+    /// A statement of the block of a namespace.
+    NamespaceItem,
     /// Anything else.
     Other,
 }
@@ -37,6 +41,10 @@ pub fn seat_of(kind: Kind, row: &Row) -> Seat
         Kind::ForInStatement => head_seat(row, Field::Left),
         Kind::ForOfStatement => head_seat(row, Field::Left),
         Kind::FormalParameter => seat_named(row, Field::Decorators, Seat::ParameterDecorator),
+        Kind::Program => seat_named(row, Field::Body, Seat::Item),
+        Kind::TSModuleBlock => seat_named(row, Field::Body, Seat::NamespaceItem),
+        Kind::TSNamespaceDeclaration => seat_named(row, Field::Body, Seat::Item),
+        Kind::ExportDeclaration => seat_named(row, Field::Declaration, Seat::Item),
         _ => Seat::Other,
     }
 }

@@ -1,5 +1,5 @@
 -- What is read of the rows, by what was given.
-use Rattle.std.proofs.Common.{◌≡◌, ◌∙◌, ◌&&◌, ◌||◌, ◌++◌, Bool, true, false, refl, sym, ap, cond, List, [], ◌∷◌, Option, Some, None, option_map}
+use Rattle.std.proofs.Common.{◌≡◌, ◌∙◌, ◌&&◌, ◌||◌, ◌++◌, Bool, true, false, refl, sym, ap, ap₂, cond, List, [], ◌∷◌, Option, Some, None, option_map}
 use Rattle.std.specs.Prelude.{codes, not, option_and_then, slice_get}
 use Rattle.std.specs.List.{find, fold, list_any}
 use Rattle.std.specs.Option.{option_or}
@@ -14,11 +14,14 @@ use Rattle.clap.specs.Matches.{matched_of}
 use Rattle.clap.specs.declared.parser.matches.Found.{Found}
 use Rattle.clap.specs.declared.parser.matches.MatchedArg.{MatchedArg}
 use Rattle.clap.proofs.WalkLemmas.{find-map, find_row}
-use Rattle.oxt_flags.specs.Flags.{FlagData, Given, Text, flags, given_by, is_given, options_with, parsed, value_given}
-use Rattle.oxt_flags.specs.Matching.{found_rows, full_rule, given_row, is_used, is_words, options_in}
+use Rattle.oxt_flags.specs.Choices.{chosen_extensions, chosen_module}
+use Rattle.oxt_flags.specs.Flags.{FlagData, Given, Text, flags, given_by, is_given, options_by, options_with, parsed, value_given}
+use Rattle.oxt_flags.specs.Matching.{found_rows, full_rule, given_row, is_used, is_words, options_for, options_in}
 use Rattle.oxt_flags.proofs.Rules.{rules_for}
 use Rattle.oxt_flags.proofs.Uses.{at_row_none, rows_of_given}
 use Rattle.oxt_options.specs.Options.{TransformData}
+use Rattle.oxt_options.specs.declared.options.Module.{Module}
+use Rattle.oxt_options.specs.declared.rewrite.RewriteExtensionsMode.{RewriteExtensionsMode}
 
 -- what is found for a flag without a value that was not given
 abbrev default_row : Text → Row
@@ -121,17 +124,36 @@ value_found id gs e =
 
 -- ---- the options
 
+same_options : (gs : List Given) (m : Module) (e : Option RewriteExtensionsMode)
+    → options_for (found_rows gs) m e ≡ options_by (λ name. value_given name gs) (λ name. is_given name gs) m e
+same_options gs m e =
+    rw (value_found (codes "jsx-pragma") gs refl, value_found (codes "jsx-pragma-frag") gs refl, is_used_found (codes "no-namespaces") gs, is_used_found (codes "only-remove-type-imports") gs, is_used_found (codes "optimize-const-enums") gs, is_used_found (codes "optimize-enums") gs) refl
+
+-- the options with what was chosen, if all was
+abbrev with_chosen : (Module → Option RewriteExtensionsMode → TransformData) → Option Text → Option Text → Option TransformData
+with_chosen f m e = option_and_then (λ (x : Module). option_map (f x) (chosen_extensions e)) (chosen_module m)
+
+chosen_alike : (f g : Module → Option RewriteExtensionsMode → TransformData) → ((m : Module) (e : Option RewriteExtensionsMode) → f m e ≡ g m e)
+    → (m e : Option Text) → with_chosen f m e ≡ with_chosen g m e
+chosen_alike f g same m e = go (chosen_module m) (chosen_extensions e)
+  where
+    go : (x : Option Module) (y : Option (Option RewriteExtensionsMode)) → option_and_then (λ (z : Module). option_map (f z) y) x ≡ option_and_then (λ (z : Module). option_map (g z) y) x
+    go None y = refl
+    go (Some x) None = refl
+    go (Some x) (Some y) = ap Some (same x y)
+
 pub options_found : (gs : List Given) → options_in (found_rows gs) ≡ options_with gs
 options_found gs =
-    rw (value_found (codes "jsx-pragma") gs refl, value_found (codes "jsx-pragma-frag") gs refl, is_used_found (codes "only-remove-type-imports") gs, is_used_found (codes "optimize-const-enums") gs, is_used_found (codes "optimize-enums") gs) refl
+    ap₂ (with_chosen (options_for (found_rows gs))) (value_found (codes "module") gs refl) (value_found (codes "rewrite-extensions") gs refl)
+    ∙ chosen_alike _ _ (same_options gs) (value_given (codes "module") gs) (value_given (codes "rewrite-extensions") gs)
 
 -- the options that the words say
-pub options_said : (words : List Text) (rows : List Row) (t : TransformData) → Some rows ≡ option_map found_rows (given_by words) → t ≡ options_in rows → Some t ≡ parsed words
-options_said words rows t found is = go (given_by words) found
+pub options_said : (words : List Text) (rows : List Row) → Some rows ≡ option_map found_rows (given_by words) → options_in rows ≡ parsed words
+options_said words rows found = go (given_by words) found
   where
-    go : (o : Option (List Given)) → Some rows ≡ option_map found_rows o → Some t ≡ option_map options_with o
+    go : (o : Option (List Given)) → Some rows ≡ option_map found_rows o → options_in rows ≡ option_and_then options_with o
     go None e = absurd (cc)
-    go (Some gs) e = let same : rows ≡ found_rows gs = cc in ap Some (is ∙ ap options_in same ∙ options_found gs)
+    go (Some gs) e = let same : rows ≡ found_rows gs = cc in ap options_in same ∙ options_found gs
 
 -- ---- what the getters read, by the rows
 

@@ -3,7 +3,10 @@ use Rattle.std.specs.Prelude.{ℕ, Bool, true, false, not, List, [], ◌∷◌, 
 use Rattle.std.specs.List.{list_any}
 use Rattle.std.specs.Str.{bytes_eq}
 use Rattle.clap.specs.Lexer.{long_of}
+use Rattle.oxt_flags.specs.Choices.{chosen_extensions, chosen_module}
 use Rattle.oxt_options.specs.Options.{TransformData, transform_defaults, typescript_defaults}
+use Rattle.oxt_options.specs.declared.options.Module.{Module}
+use Rattle.oxt_options.specs.declared.rewrite.RewriteExtensionsMode.{RewriteExtensionsMode}
 
 abbrev pub Text : Type 0
 Text = List ℕ
@@ -26,9 +29,12 @@ abbrev pub flags : List FlagData
 flags =
     with_value (codes "jsx-pragma")
     ∷ with_value (codes "jsx-pragma-frag")
+    ∷ with_value (codes "module")
+    ∷ alone (codes "no-namespaces")
     ∷ alone (codes "only-remove-type-imports")
     ∷ alone (codes "optimize-const-enums")
     ∷ alone (codes "optimize-enums")
+    ∷ with_value (codes "rewrite-extensions")
     ∷ []
 
 -- ---- what the words give
@@ -115,21 +121,31 @@ given_by words = given_from flags words flag []
 
 -- ---- the options
 
--- the options of a run without flags, but for the flags that have a value or are used
-abbrev pub options_by : (Text → Option Text) → (Text → Bool) → TransformData
-options_by value is_used = record transform_defaults {
+-- the options of a run without flags, but for the flags that have a value or are used, and for what
+-- was chosen by word
+abbrev pub options_by : (Text → Option Text) → (Text → Bool) → Module → Option RewriteExtensionsMode → TransformData
+options_by value is_used «module» extensions = record transform_defaults {
   typescript = record typescript_defaults {
     jsx_pragma = unwrap_or (value (codes "jsx-pragma")) typescript_defaults.jsx_pragma;
     jsx_pragma_frag = unwrap_or (value (codes "jsx-pragma-frag")) typescript_defaults.jsx_pragma_frag;
     only_remove_type_imports = is_used (codes "only-remove-type-imports");
+    allow_namespaces = not (is_used (codes "no-namespaces"));
     optimize_const_enums = is_used (codes "optimize-const-enums");
     optimize_enums = is_used (codes "optimize-enums");
+    rewrite_import_extensions = extensions;
   };
+  «module» = «module»;
 }
 
-abbrev pub options_with : List Given → TransformData
-options_with gs = options_by (λ name. value_given name gs) (λ name. is_given name gs)
+-- the same with the words themselves; none where one is none of its list
+abbrev pub chosen_by : (Text → Option Text) → (Text → Bool) → Option TransformData
+chosen_by value is_used =
+    option_and_then (λ (m : Module). option_map (options_by value is_used m) (chosen_extensions (value (codes "rewrite-extensions"))))
+    (chosen_module (value (codes "module")))
+
+abbrev pub options_with : List Given → Option TransformData
+options_with gs = chosen_by (λ name. value_given name gs) (λ name. is_given name gs)
 
 -- the options that the words after the program's name say; none where they are not taken
 abbrev pub parsed : List Text → Option TransformData
-parsed words = option_map options_with (given_by words)
+parsed words = option_and_then options_with (given_by words)

@@ -1,3 +1,4 @@
+pub mod Choices
 pub mod Flags
 pub mod Views
 pub mod Matching

@@ -9,8 +9,10 @@ use Rattle.clap.specs.declared.builder.action.ArgAction.TheVariants.{Set, SetTru
 use Rattle.clap.specs.declared.parser.matches.ValueSource.{ValueSource}
 use Rattle.clap.specs.declared.parser.matches.ValueSource.TheVariants.{CommandLine}
 use Rattle.clap.specs.declared.builder.value_parser.Reading.TheVariants as reading
-use Rattle.oxt_flags.specs.Flags.{FlagData, Given, Text, flags, options_by}
+use Rattle.oxt_flags.specs.Flags.{FlagData, Given, Text, chosen_by, flags, options_by}
 use Rattle.oxt_options.specs.Options.{TransformData}
+use Rattle.oxt_options.specs.declared.options.Module.{Module}
+use Rattle.oxt_options.specs.declared.rewrite.RewriteExtensionsMode.{RewriteExtensionsMode}
 
 abbrev pub action_for : Bool → ArgAction
 action_for true = Set
@@ -64,6 +66,10 @@ is_words _ = false
 abbrev pub is_used : Text → List Row → Bool
 is_used id rows = is_words (option_and_then (λ (r : Row). r.source) (find (λ r. bytes_eq r.id id) rows))
 
--- the options that the matches say
-abbrev pub options_in : List Row → TransformData
-options_in rows = options_by (λ name. first_of name rows) (λ name. is_used name rows)
+-- the options that the matches say; none where a word is none of its list
+abbrev pub options_in : List Row → Option TransformData
+options_in rows = chosen_by (λ name. first_of name rows) (λ name. is_used name rows)
+
+-- the same with what was chosen
+abbrev pub options_for : List Row → Module → Option RewriteExtensionsMode → TransformData
+options_for rows = options_by (λ name. first_of name rows) (λ name. is_used name rows)

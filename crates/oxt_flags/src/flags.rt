@@ -16,12 +16,18 @@ pub struct Flag {
 pub const JSX_PRAGMA: &str = "jsx-pragma";
 /// The function that makes a fragment.
 pub const JSX_PRAGMA_FRAG: &str = "jsx-pragma-frag";
+/// The module system that the program is written for, by its word.
+pub const MODULE: &str = "module";
+/// Namespaces are not lowered.
+pub const NO_NAMESPACES: &str = "no-namespaces";
 /// Only imports that say so themselves are imports of types.
 pub const ONLY_REMOVE_TYPE_IMPORTS: &str = "only-remove-type-imports";
 /// Members of `const` enums are inlined, and such enums dropped.
 pub const OPTIMIZE_CONST_ENUMS: &str = "optimize-const-enums";
 /// The same for other enums.
 pub const OPTIMIZE_ENUMS: &str = "optimize-enums";
+/// What becomes of TypeScript's extensions in the names of modules, by its word.
+pub const REWRITE_EXTENSIONS: &str = "rewrite-extensions";
 
 /// All flags.
 pub fn flags() -> &'static [Flag]
@@ -37,6 +43,14 @@ pub fn flags() -> &'static [Flag]
             takes_value: true,
         },
         Flag {
+            name: MODULE,
+            takes_value: true,
+        },
+        Flag {
+            name: NO_NAMESPACES,
+            takes_value: false,
+        },
+        Flag {
             name: ONLY_REMOVE_TYPE_IMPORTS,
             takes_value: false,
         },
@@ -47,6 +61,10 @@ pub fn flags() -> &'static [Flag]
         Flag {
             name: OPTIMIZE_ENUMS,
             takes_value: false,
+        },
+        Flag {
+            name: REWRITE_EXTENSIONS,
+            takes_value: true,
         },
     ]
 }

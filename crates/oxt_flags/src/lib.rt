@@ -1,6 +1,7 @@
 //! The words of the command line, as options.
 #![tactic(auto)]
 
+mod choices;
 pub mod flags;
 mod matching;
 pub mod options;

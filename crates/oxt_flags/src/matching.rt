@@ -1,7 +1,7 @@
 //! The matches of the words, by `clap`.
 ghost use Rattle.std.specs.Prelude.{◌≡◌, ◌≢◌, IfOk, OnOk, map, [], false, option_map, IsUtf8};
 ghost use Rattle.std.specs.List.{All};
-ghost use Rattle.clap.specs.Words.{app_of, found_of, kind_of, rows_of, rule_of};
+ghost use Rattle.clap.specs.Words.{app_of, first_of, found_of, kind_of, rows_of, rule_of};
 ghost use Rattle.oxt_flags.specs.Flags.{flags, given_by};
 ghost use Rattle.oxt_flags.specs.Matching.{app_with, found_rows, rule_for};
 ghost use Rattle.oxt_flags.specs.Views.{flag_view};
@@ -72,4 +72,12 @@ fn unless_memory(error: Error) -> Result<(), OutOfMemory>
         ErrorKind::OutOfMemory => Err(OutOfMemory),
         _ => Ok(()),
     }
+}
+
+// The value of the flag in the words; none where it was not given.
+pub(crate) fn value_of<'a>(matches: &'a ArgMatches<'_>, flag: &str) -> Option<&'a str>
+    ensures { option_map (λ value. value.now) result
+        ≡ first_of flag.now (rows_of (found_of matches.now)) }
+{
+    matches.get_str(flag)
 }

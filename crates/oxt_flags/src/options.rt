@@ -3,17 +3,19 @@ ghost use Rattle.std.specs.Prelude.{◌≡◌, IfOk, OnOk, map, take, option_map
 ghost use Rattle.std.specs.List.{All};
 ghost use Rattle.clap.specs.Words.{first_of, found_of, rows_of};
 ghost use Rattle.oxt_flags.specs.Flags.{given_by, options_with, parsed};
-ghost use Rattle.oxt_flags.specs.Matching.{found_rows, options_in, is_used, is_words};
+ghost use Rattle.oxt_flags.specs.Matching.{found_rows, options_for, options_in, is_used, is_words};
 ghost use Rattle.oxt_options.specs.Options.{transform_view};
 ghost use Rattle.oxt_tree.specs.Names.{name_bytes};
 
+use crate::choices::{chosen_extensions, chosen_module};
 use crate::flags::{
-    JSX_PRAGMA, JSX_PRAGMA_FRAG, ONLY_REMOVE_TYPE_IMPORTS, OPTIMIZE_CONST_ENUMS, OPTIMIZE_ENUMS,
+    JSX_PRAGMA, JSX_PRAGMA_FRAG, NO_NAMESPACES, ONLY_REMOVE_TYPE_IMPORTS, OPTIMIZE_CONST_ENUMS,
+    OPTIMIZE_ENUMS,
 };
-use crate::matching::matched;
+use crate::matching::{matched, value_of};
 use clap::ArgMatches;
 use clap::parser::ValueSource;
-use oxt_options::TransformOptions;
+use oxt_options::{Module, RewriteExtensionsMode, TransformOptions};
 use oxt_tree::ids::OutOfMemory;
 use oxt_tree::name::Name;
 use std::alloc::Global;
@@ -22,6 +24,8 @@ use std::alloc::Global;
 ///
 /// Each word is a flag that was not given before, followed by its value where it takes one and
 /// has no `=`. Such a value does not begin with a hyphen, unless it is one. `--` may stand last.
+/// The value of `--module` is `preserve`, `esm` or `commonjs`; that of `--rewrite-extensions` is a
+/// word that `parse_rewrite_import_extensions` takes.
 pub fn options_of(alloc: Global, words: &[Name]) -> Result<Option<TransformOptions>, OutOfMemory>
     ensures { IfOk result (λ options. option_map transform_view options
         ≡ parsed (map name_bytes words.now)) }
@@ -47,17 +51,39 @@ fn options_of_texts(alloc: Global, words: &[&str]) -> Result<Option<TransformOpt
         ≡ parsed (map (λ w. w.now) words.now)) }
 {
     match matched(alloc, words)? {
-        Some(matches) => Ok(Some(options_from(alloc, &matches)?)),
+        Some(matches) => options_from(alloc, &matches),
         None => Ok(None),
     }
 }
 
-// The options of a run without flags, with what was matched.
-fn options_from(alloc: Global, matches: &ArgMatches<'_>) -> Result<TransformOptions, OutOfMemory>
-    ensures { IfOk result (λ options. transform_view options
+// The options of a run without flags, with what was matched; none where a word is none of its list.
+fn options_from(
+    alloc: Global,
+    matches: &ArgMatches<'_>,
+) -> Result<Option<TransformOptions>, OutOfMemory>
+    ensures { IfOk result (λ options. option_map transform_view options
         ≡ options_in (rows_of (found_of matches.now))) }
 {
+    match (chosen_module(matches), chosen_extensions(matches)) {
+        (Some(module), Some(extensions)) => {
+            Ok(Some(options_for(alloc, matches, module, extensions)?))
+        }
+        _ => Ok(None),
+    }
+}
+
+// The same with what was chosen.
+fn options_for(
+    alloc: Global,
+    matches: &ArgMatches<'_>,
+    module: Module,
+    extensions: Option<RewriteExtensionsMode>,
+) -> Result<TransformOptions, OutOfMemory>
+    ensures { IfOk result (λ options. transform_view options
+        ≡ options_for (rows_of (found_of matches.now)) «module» extensions) }
+{
     let mut options = TransformOptions::defaults(alloc)?;
+    options.module = module;
     let typescript = &mut options.typescript;
     set_text(alloc, matches, JSX_PRAGMA, &mut typescript.jsx_pragma)?;
     set_text(
@@ -67,8 +93,10 @@ fn options_from(alloc: Global, matches: &ArgMatches<'_>) -> Result<TransformOpti
         &mut typescript.jsx_pragma_frag,
     )?;
     typescript.only_remove_type_imports = is_used(matches, ONLY_REMOVE_TYPE_IMPORTS);
+    typescript.allow_namespaces = !is_used(matches, NO_NAMESPACES);
     typescript.optimize_const_enums = is_used(matches, OPTIMIZE_CONST_ENUMS);
     typescript.optimize_enums = is_used(matches, OPTIMIZE_ENUMS);
+    typescript.rewrite_import_extensions = extensions;
     Ok(options)
 }
 
@@ -82,7 +110,7 @@ fn set_text(
     ensures { OnOk result (name_bytes text.new
         ≡ unwrap_or (first_of flag.now (rows_of (found_of matches.now))) (name_bytes text.old)) }
 {
-    if let Some(value) = matches.get_str(flag) {
+    if let Some(value) = value_of(matches, flag) {
         *text = Name::new(alloc, value)?;
     }
     Ok(())

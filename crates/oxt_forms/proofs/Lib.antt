@@ -1,2 +1,5 @@
+pub mod Appends
+pub mod Details
+pub mod Drops
 pub mod Firsts
 pub mod Searches

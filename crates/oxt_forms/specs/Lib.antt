@@ -1,2 +1,4 @@
+pub mod Details
 pub mod Forms
+pub mod Leaves
 pub mod Made

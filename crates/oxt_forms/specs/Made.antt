@@ -190,11 +190,13 @@ abbrev pub is_told_gone : Known → Doc → Bool
 is_told_gone f (node k i b e ds) = tells_gone (told_of f.told i)
 is_told_gone f d = false
 
--- a statement that is neither an expression nor nothing
+-- A statement that is neither an expression nor nothing. A block of a namespace is nothing, since one that does something
+-- may not stand in a class.
 abbrev pub is_loud : Known → Doc → Bool
 is_loud f d =
     not (is_kind kind.ExpressionStatement d)
-    && (not (is_mere_declaration d) && (not (is_silent_declaration f d) && not (is_told_gone f d)))
+    && (not (is_kind kind.TSNamespaceDeclaration d)
+    && (not (is_mere_declaration d) && (not (is_silent_declaration f d) && not (is_told_gone f d))))
 
 -- a static block all of whose statements are expressions or nothing
 abbrev pub is_quiet : Known → Kind → Docs → Bool

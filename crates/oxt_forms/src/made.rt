@@ -113,13 +113,15 @@ pub(crate) fn is_silent_declaration(facts: &Facts, part: &Part) -> bool
     }
 }
 
-/// Whether the part is a statement that is neither an expression nor nothing.
+/// Whether the part is a statement that is neither an expression nor nothing. A block of a namespace is nothing, since one
+/// that does something may not stand in a class.
 fn is_loud(facts: &Facts, part: &Part) -> bool
     ensures { result ≡ is_loud facts.now (part_doc part.now) }
 {
     !part.is_kind(Kind::ExpressionStatement)
-        && (!part.is_mere_declaration()
-            && (!is_silent_declaration(facts, part) && !is_told_gone(facts, part)))
+        && (!part.is_kind(Kind::TSNamespaceDeclaration)
+            && (!part.is_mere_declaration()
+                && (!is_silent_declaration(facts, part) && !is_told_gone(facts, part))))
 }
 
 /// Whether it is told of the part that it does nothing.

@@ -1,5 +1,5 @@
 -- The blocks that are dropped, by a set of the symbols that are needed.
-use Rattle.std.proofs.Common.{◌≡◌, ◌∙◌, sym, ap, ℕ, List, [], true, false, not, ◌&&◌, cond, Result, Ok, Err, IfOk, Vec, Global}
+use Rattle.std.proofs.Common.{◌≡◌, ◌∙◌, sym, ap, ℕ, List, [], Bool, true, false, not, ◌&&◌, cond, Result, Ok, Err, IfOk, Vec, Global}
 use Rattle.oxt_inline.specs.DroppedEnums.{dropped, dropped_by}
 use Rattle.oxt_inline.specs.Needed.{needed}
 use Rattle.oxt_inline.specs.Values.{optimizes}
@@ -12,12 +12,12 @@ use Rattle.oxt_tree.specs.Syntax.{is_definition_file}
 use Rattle.oxt_tree.specs.declared.ids.NodeId.{NodeId}
 
 -- the set has what is needed
-by_needs : (ks : List ℕ) (s : Scoped) (d : Doc) (o : TypeScriptData) → ((n : ℕ) → is_in ks n ≡ is_in (needed s d o) n) → optimizes o ≡ true → is_definition_file d ≡ false → dropped_by (is_in ks) s d o ≡ dropped s d o
-by_needs ks s d o same on source =
+by_needs : (ns : List ℕ) (s : Scoped) (ks : ℕ → Bool) (d : Doc) (o : TypeScriptData) → ((n : ℕ) → is_in ns n ≡ is_in (needed s ks d o) n) → optimizes o ≡ true → is_definition_file d ≡ false → dropped_by (is_in ns) s d o ≡ dropped s ks d o
+by_needs ns s ks d o same on source =
     ap (λ p. dropped_by p s d o) (λ j n. same n j)
-    ∙ sym (ap (λ b. cond (b && not (is_definition_file d)) (dropped_by (is_in (needed s d o)) s d o) []) on
-    ∙ ap (λ b. cond (not b) (dropped_by (is_in (needed s d o)) s d o) []) source)
+    ∙ sym (ap (λ b. cond (b && not (is_definition_file d)) (dropped_by (is_in (needed s ks d o)) s d o) []) on
+    ∙ ap (λ b. cond (not b) (dropped_by (is_in (needed s ks d o)) s d o) []) source)
 
-pub ok_by_needs : {E : Type 0} (r : Result (Vec NodeId Global) E) (ks : List ℕ) (s : Scoped) (d : Doc) (o : TypeScriptData) → ((n : ℕ) → is_in ks n ≡ is_in (needed s d o) n) → optimizes o ≡ true → is_definition_file d ≡ false → IfOk r (λ v. numbers_in v.items ≡ dropped_by (is_in ks) s d o) → IfOk r (λ v. numbers_in v.items ≡ dropped s d o)
-ok_by_needs (Ok v) ks s d o same on source h = h ∙ by_needs ks s d o same on source
-ok_by_needs (Err e) ks s d o same on source h = h
+pub ok_by_needs : {E : Type 0} (r : Result (Vec NodeId Global) E) (ns : List ℕ) (s : Scoped) (ks : ℕ → Bool) (d : Doc) (o : TypeScriptData) → ((n : ℕ) → is_in ns n ≡ is_in (needed s ks d o) n) → optimizes o ≡ true → is_definition_file d ≡ false → IfOk r (λ v. numbers_in v.items ≡ dropped_by (is_in ns) s d o) → IfOk r (λ v. numbers_in v.items ≡ dropped s ks d o)
+ok_by_needs (Ok v) ns s ks d o same on source h = h ∙ by_needs ns s ks d o same on source
+ok_by_needs (Err e) ns s ks d o same on source h = h

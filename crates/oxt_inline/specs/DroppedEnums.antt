@@ -41,6 +41,7 @@ blocks s o needs =
 abbrev pub dropped_by : (ℕ → Bool) → Scoped → Doc → TypeScriptData → List ℕ
 dropped_by needs s d o = all_in (blocks s o needs) d tt
 
--- The blocks that are dropped: none where members of no enum are inlined, and none of a file of definitions.
-abbrev pub dropped : Scoped → Doc → TypeScriptData → List ℕ
-dropped s d o = if optimizes o && not (is_definition_file d) then dropped_by (is_in (needed s d o)) s d o else []
+-- The blocks that are dropped, by which `import a = ..` are kept: none where members of no enum are inlined, and none of a
+-- file of definitions.
+abbrev pub dropped : Scoped → (ℕ → Bool) → Doc → TypeScriptData → List ℕ
+dropped s ks d o = if optimizes o && not (is_definition_file d) then dropped_by (is_in (needed s ks d o)) s d o else []

@@ -8,7 +8,7 @@ use Rattle.oxt_grammar.specs.Places.{same_kind}
 use Rattle.oxt_grammar.specs.declared.kind.Kind.{Kind}
 use Rattle.oxt_grammar.specs.declared.kind.Kind.TheVariants as kind
 use Rattle.oxt_inline.specs.Inlined.{constant_at}
-use Rattle.oxt_inline.specs.Seats.{is_constant, is_exported, is_name, seat_in}
+use Rattle.oxt_inline.specs.Seats.{is_constant, is_exported, is_left_out, is_name, seat_by, seat_in}
 use Rattle.oxt_inline.specs.Constants.{constants_in}
 use Rattle.oxt_inline.specs.Names.{named_symbol, symbol_in}
 use Rattle.oxt_inline.specs.Values.{Named}
@@ -116,37 +116,41 @@ needed_by s q k i ds =
     else if same_kind k kind.BindingIdentifier then emitted_by s q i
     else value_meant s i
 
--- what a node is to its fields
-abbrev pub seat_inside : Scoped → Seat → Kind → ℕ → Seat
-seat_inside s q k i = if same_kind k kind.TSEnumMember && has_value s i then seat.Constant else q
+-- what a node is to its fields, by which `import a = ..` are kept
+abbrev pub seat_inside : Scoped → (ℕ → Bool) → Seat → Kind → ℕ → Seat
+seat_inside s ks q k i = if same_kind k kind.TSEnumMember && has_value s i then seat.Constant else seat_by ks q k i
 
 -- nothing is left of erased code, and of what is inlined
-abbrev pub inside_of : Scoped → Named → TypeScriptData → Seat → Kind → ℕ → Docs → Inside Seat
-inside_of s c o q k i ds =
+abbrev pub inside_of : Scoped → (ℕ → Bool) → Named → TypeScriptData → Seat → Kind → ℕ → Docs → Inside Seat
+inside_of s ks c o q k i ds =
     if is_dropped_by k ds || is_some (constant_at s c o q k ds) then inside.Skipped
-    else inside.ByField (seat_inside s q k i)
+    else inside.ByField (seat_inside s ks q k i)
 
--- nothing is left of the initializer of a member whose value is known
+-- nothing is left of the initializer of a member whose value is known, and of the right side of an `import a = ..` that is
+-- not kept
+abbrev pub is_left : Seat → Field → Bool
+is_left q r = not (is_constant q && bytes_eq r.name (codes "initializer")) && not (is_left_out q && bytes_eq r.name (codes "moduleReference"))
+
 abbrev pub field_seat : Seat → Kind → Field → Option Seat
-field_seat q k r = if is_constant q && bytes_eq r.name (codes "initializer") then None else Some (seat_in q k r)
+field_seat q k r = if is_left q r then Some (seat_in q k r) else None
 
 abbrev pub number_needed : Option SymbolId → Option ℕ
 number_needed None = None
 number_needed (Some i) = Some i.0
 
-abbrev pub sought : Scoped → Named → TypeScriptData → Sought Seat ℕ
-sought s c o =
+abbrev pub sought : Scoped → (ℕ → Bool) → Named → TypeScriptData → Sought Seat ℕ
+sought s ks c o =
     record {
       at = λ q k i ds. number_needed (needed_by s q k i ds);
-      inside = inside_of s c o;
+      inside = inside_of s ks c o;
       in_field = field_seat;
     }
 
 -- the symbols that a tree needs, by the constants of its members
-abbrev pub needed_with : Named → Scoped → Doc → TypeScriptData → List ℕ
-needed_with c s d o = all_in (sought s c o) d seat.Value
+abbrev pub needed_with : Named → Scoped → (ℕ → Bool) → Doc → TypeScriptData → List ℕ
+needed_with c s ks d o = all_in (sought s ks c o) d seat.Value
 
 -- The symbols that a tree needs: those that are used as values in what is left of it, and those of enums that cannot be
 -- dropped by what is said of their declarations.
-abbrev pub needed : Scoped → Doc → TypeScriptData → List ℕ
-needed s d o = needed_with (constants_in s d) s d o
+abbrev pub needed : Scoped → (ℕ → Bool) → Doc → TypeScriptData → List ℕ
+needed s ks d o = needed_with (constants_in s d) s ks d o

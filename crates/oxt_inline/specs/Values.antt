@@ -60,3 +60,9 @@ member_constant s c o k ds =
 abbrev pub optional_constant : Scoped → Named → TypeScriptData → Doc → Option Constant
 optional_constant s c o (node k i b e ds) = if is_set (named (codes "optional") k ds) then member_constant s c o k ds else None
 optional_constant s c o d = None
+
+-- the constant of the member that a dotted name `E.X` names, whose first part is a bare name of its enum
+abbrev pub dotted_constant : Scoped → Named → TypeScriptData → Kind → Docs → Option Constant
+dotted_constant s c o k ds =
+    if same_kind k kind.TSQualifiedName then option_and_then (λ x. constant_in_enum s c o x (meant_by s (named (codes "left") k ds))) (key_text (codes "name") (named (codes "right") k ds))
+    else None

@@ -14,6 +14,7 @@ use indexmap::IndexSet;
 use oxt_grammar::field::Field;
 use oxt_grammar::holds::Row;
 use oxt_grammar::kind::Kind;
+use oxt_modules::nodes::NodeList;
 use oxt_names::ids::SymbolId;
 use oxt_options::TypeScriptOptions;
 use oxt_scoping::scoping::Scoping;
@@ -26,7 +27,8 @@ use std::alloc::Global;
 
 /// The blocks, in the order of the text, of the enums that are dropped: members of the enum are inlined, no block of it is
 /// exported or ambient, no declaration of another kind emits code under its name, each of its members is constant and
-/// none is named by a template, and no use of it as a value is left. `scoping` is the table of the program.
+/// none is named by a template, and no use of it as a value is left. One in an `import a = ..` is left where that is
+/// `kept`. `scoping` is the table of the program.
 ///
 /// # Errors
 ///
@@ -35,13 +37,14 @@ pub fn dropped_blocks(
     alloc: Global,
     program: &Node,
     scoping: &Scoping,
+    kept: &NodeList,
     options: &TypeScriptOptions,
 ) -> Result<Vec<NodeId>, OutOfMemory>
     ensures { IfOk result (λ nodes. numbers_in nodes.items
-        ≡ dropped scoping.now (node_doc program.now) (typescript_view options.now)) }
+        ≡ dropped scoping.now (is_in kept.now) (node_doc program.now) (typescript_view options.now)) }
 {
     if optimizes(options) && !program.is_definition_file() {
-        let needed = needed_set(alloc, program, scoping, options)?;
+        let needed = needed_set(alloc, program, scoping, kept, options)?;
         dropped_by(alloc, program, scoping, options, &needed)
     } else {
         Ok(Vec::new(alloc))
@@ -53,12 +56,13 @@ fn needed_set(
     alloc: Global,
     program: &Node,
     scoping: &Scoping,
+    kept: &NodeList,
     options: &TypeScriptOptions,
 ) -> Result<IndexSet<u64>, OutOfMemory>
     ensures { IfOk result (λ set. (n : ℕ) → is_in set.keys n
-        ≡ is_in (needed scoping.now (node_doc program.now) (typescript_view options.now)) n) }
+        ≡ is_in (needed scoping.now (is_in kept.now) (node_doc program.now) (typescript_view options.now)) n) }
 {
-    let symbols = needed_symbols(alloc, program, scoping, options)?;
+    let symbols = needed_symbols(alloc, program, scoping, kept, options)?;
     set_of(alloc, symbols.as_slice())
 }
 

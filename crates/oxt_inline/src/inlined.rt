@@ -4,18 +4,20 @@ ghost use Rattle.oxt_grammar.specs.Field.{row_view};
 ghost use Rattle.oxt_inline.specs.Inlined.{chain_constant, constant_at, constant_of, inlined, inlined_at, inlined_view, inlined_with, sought};
 ghost use Rattle.oxt_inline.specs.Constants.{table_at};
 ghost use Rattle.oxt_names.specs.Constant.{Constant, constant_view};
+ghost use Rattle.oxt_options.specs.Facts.{is_in};
 ghost use Rattle.oxt_options.specs.Lists.{constants_in as listed};
 ghost use Rattle.oxt_options.specs.Options.{typescript_view};
 ghost use Rattle.oxt_tree.specs.View.{doc_or_nil, docs_in, node_doc};
 
 use crate::constants::Constants;
-use crate::seat::{Seat, is_value, seat_in};
-use crate::values::{member_constant, optimizes, optional_constant};
+use crate::seat::{Seat, is_alias, is_value, seat_by, seat_in};
+use crate::values::{dotted_constant, member_constant, optimizes, optional_constant};
 use oxt_constant::meter::TextMeter;
 use oxt_grammar::category::Category;
 use oxt_grammar::field::Field;
 use oxt_grammar::holds::Row;
 use oxt_grammar::kind::Kind;
+use oxt_modules::nodes::NodeList;
 use oxt_names::constant::ConstantValue;
 use oxt_options::TypeScriptOptions;
 use oxt_scoping::scoping::Scoping;
@@ -36,8 +38,8 @@ pub struct Inlined<'a> {
 
 /// The expressions `E.X`, `E["X"]`, `E?.X` and `E?.["X"]` of the program, outside types, whose `E` is a bare name of an
 /// enum and whose `X` is a member with a constant, where the members of the enum are inlined: each with the constant of
-/// the first block that has one. A target to which something is assigned is none, and a chain stands for its element.
-/// `scoping` is the table of the program.
+/// the first block that has one. A target to which something is assigned is none, and a chain stands for its element. The
+/// dotted name `E.X` in an `import a = ..` is one where that is `kept`. `scoping` is the table of the program.
 ///
 /// # Errors
 ///
@@ -46,14 +48,15 @@ pub fn inlined_expressions(
     alloc: Global,
     program: &Node,
     scoping: &Scoping,
+    kept: &NodeList,
     options: &TypeScriptOptions,
 ) -> Result<Vec<(NodeId, ConstantValue)>, OutOfMemory>
     ensures { IfOk result (λ constants. listed constants.items
-        ≡ inlined scoping.now (node_doc program.now) (typescript_view options.now)) }
+        ≡ inlined scoping.now (is_in kept.now) (node_doc program.now) (typescript_view options.now)) }
 {
     if optimizes(options) {
         let constants = Constants::of(alloc, program, scoping)?;
-        inlined_with(alloc, program, scoping, &constants, options)
+        inlined_with(alloc, program, scoping, kept, &constants, options)
     } else {
         Ok(Vec::new(alloc))
     }
@@ -64,14 +67,16 @@ fn inlined_with(
     alloc: Global,
     program: &Node,
     scoping: &Scoping,
+    kept: &NodeList,
     constants: &Constants<'_>,
     options: &TypeScriptOptions,
 ) -> Result<Vec<(NodeId, ConstantValue)>, OutOfMemory>
     ensures { IfOk result (λ found. listed found.items ≡ inlined_with (table_at constants.now) scoping.now
-        (node_doc program.now) (typescript_view options.now)) }
+        (is_in kept.now) (node_doc program.now) (typescript_view options.now)) }
 {
     let search = Inlines {
         scoping,
+        kept,
         constants,
         options,
     };
@@ -106,6 +111,7 @@ fn text_length(value: &ConstantValue) -> usize {
 #[derive(Clone, Copy)]
 struct Inlines<'a> {
     scoping: &'a Scoping,
+    kept: &'a NodeList,
     constants: &'a Constants<'a>,
     options: &'a TypeScriptOptions,
 }
@@ -119,7 +125,7 @@ impl<'a> Search for Inlines<'a> {
 
     ghost view = { inlined_view };
 
-    ghost sought = { λ inlines. sought inlines.scoping.now (table_at inlines.constants.now) (typescript_view inlines.options.now) };
+    ghost sought = { λ inlines. sought inlines.scoping.now (is_in inlines.kept.now) (table_at inlines.constants.now) (typescript_view inlines.options.now) };
 
     fn visit(&self, node: &Node, seat: Seat) -> Visit<Inlined<'a>, Seat> {
         Visit {
@@ -127,7 +133,7 @@ impl<'a> Search for Inlines<'a> {
             inside: if Category::TSType.contains(node.kind) {
                 Inside::Skipped
             } else {
-                Inside::ByField(seat)
+                Inside::ByField(seat_by(self.kept, seat, node.kind, node.id))
             },
         }
     }
@@ -168,6 +174,8 @@ pub fn constant_at<'a>(
 {
     if is_value(seat) {
         constant_of(scoping, constants, options, node)
+    } else if is_alias(seat) {
+        dotted_constant(scoping, constants, options, node)
     } else {
         None
     }

@@ -2,20 +2,22 @@
 ghost use Rattle.std.specs.List.{list_any};
 ghost use Rattle.std.specs.Prelude.{◌≡◌, ◌<◌, ℕ, IfOk, Some, length, map, option_map, slice_get};
 ghost use Rattle.oxt_grammar.specs.Field.{row_view};
-ghost use Rattle.oxt_inline.specs.Needed.{are_loose, emits_by, emitted_by, field_seat, has_loose_member, has_value, inside_of, is_enum_emitted, is_kept, is_loose, kept_by, needed, needed_by, needed_with, number_of, seat_inside, sought, value_meant};
+ghost use Rattle.oxt_inline.specs.Needed.{are_loose, emits_by, emitted_by, field_seat, has_loose_member, has_value, inside_of, is_enum_emitted, is_kept, is_left, is_loose, kept_by, needed, needed_by, needed_with, number_of, seat_inside, sought, value_meant};
 ghost use Rattle.oxt_inline.specs.Constants.{table_at};
 ghost use Rattle.oxt_scoping.specs.Entries.{is_enum};
+ghost use Rattle.oxt_options.specs.Facts.{is_in};
 ghost use Rattle.oxt_options.specs.Options.{typescript_view};
 ghost use Rattle.oxt_tree.specs.View.{doc_or_nil, docs_in, node_doc, part_doc};
 
 use crate::constants::Constants;
 use crate::inlined::constant_at;
 use crate::names::named_symbol;
-use crate::seat::{Seat, is_constant, is_exported, is_name, seat_in};
+use crate::seat::{Seat, is_constant, is_exported, is_left_out, is_name, seat_by, seat_in};
 use bitflags::Flags;
 use oxt_grammar::field::Field;
 use oxt_grammar::holds::Row;
 use oxt_grammar::kind::Kind;
+use oxt_modules::nodes::NodeList;
 use oxt_names::flags::{ReferenceFlags, SymbolFlags};
 use oxt_names::ids::SymbolId;
 use oxt_options::TypeScriptOptions;
@@ -30,7 +32,8 @@ use std::alloc::Global;
 
 /// The symbols, in the order of the text, that are used as values in what is left of the program once members are
 /// inlined, and those of enums that cannot be dropped: with a block that is exported or ambient, with a member whose
-/// value is not known or that a template names, or with a declaration of another kind that emits code.
+/// value is not known or that a template names, or with a declaration of another kind that emits code. The right side of
+/// an `import a = ..` is left where that is `kept`.
 ///
 /// # Errors
 ///
@@ -39,13 +42,14 @@ pub fn needed_symbols(
     alloc: Global,
     program: &Node,
     scoping: &Scoping,
+    kept: &NodeList,
     options: &TypeScriptOptions,
 ) -> Result<Vec<SymbolId>, OutOfMemory>
     ensures { IfOk result (λ symbols. map number_of symbols.items
-        ≡ needed scoping.now (node_doc program.now) (typescript_view options.now)) }
+        ≡ needed scoping.now (is_in kept.now) (node_doc program.now) (typescript_view options.now)) }
 {
     let constants = Constants::of(alloc, program, scoping)?;
-    needed_with(alloc, program, scoping, &constants, options)
+    needed_with(alloc, program, scoping, kept, &constants, options)
 }
 
 /// The same, by the constants of the members.
@@ -53,14 +57,16 @@ fn needed_with(
     alloc: Global,
     program: &Node,
     scoping: &Scoping,
+    kept: &NodeList,
     constants: &Constants<'_>,
     options: &TypeScriptOptions,
 ) -> Result<Vec<SymbolId>, OutOfMemory>
     ensures { IfOk result (λ symbols. map number_of symbols.items ≡ needed_with (table_at constants.now) scoping.now
-        (node_doc program.now) (typescript_view options.now)) }
+        (is_in kept.now) (node_doc program.now) (typescript_view options.now)) }
 {
     let search = Needs {
         scoping,
+        kept,
         constants,
         options,
     };
@@ -71,6 +77,7 @@ fn needed_with(
 #[derive(Clone, Copy)]
 struct Needs<'a> {
     scoping: &'a Scoping,
+    kept: &'a NodeList,
     constants: &'a Constants<'a>,
     options: &'a TypeScriptOptions,
 }
@@ -84,12 +91,12 @@ impl<'a> Search for Needs<'a> {
 
     ghost view = { number_of };
 
-    ghost sought = { λ needs. sought needs.scoping.now (table_at needs.constants.now) (typescript_view needs.options.now) };
+    ghost sought = { λ needs. sought needs.scoping.now (is_in needs.kept.now) (table_at needs.constants.now) (typescript_view needs.options.now) };
 
     fn visit(&self, node: &Node, seat: Seat) -> Visit<SymbolId, Seat> {
         Visit {
             found: needed_by(self.scoping, seat, node),
-            inside: inside_of(self.scoping, self.constants, self.options, seat, node),
+            inside: self.inside_of(seat, node),
         }
     }
 
@@ -98,44 +105,51 @@ impl<'a> Search for Needs<'a> {
     }
 }
 
-/// How the search goes on inside the node, which stands so: not in erased code, and not in what is inlined.
-fn inside_of(
-    scoping: &Scoping,
-    constants: &Constants<'_>,
-    options: &TypeScriptOptions,
-    seat: Seat,
-    node: &Node,
-) -> Inside<Seat>
-    ensures { result ≡ inside_of scoping.now (table_at constants.now) (typescript_view options.now) seat node.now.kind node.now.id.0
-        (docs_in node.now.parts.items) }
-{
-    if is_dropped(node) || constant_at(scoping, constants, options, seat, node).is_some() {
-        Inside::Skipped
-    } else {
-        Inside::ByField(seat_inside(scoping, seat, node))
+impl<'a> Needs<'a> {
+    /// How the search goes on inside the node, which stands so: not in erased code, and not in what is inlined.
+    fn inside_of(&self, seat: Seat, node: &Node) -> Inside<Seat>
+        ensures { result ≡ inside_of self.now.scoping.now (is_in self.now.kept.now) (table_at self.now.constants.now)
+            (typescript_view self.now.options.now) seat node.now.kind node.now.id.0 (docs_in node.now.parts.items) }
+    {
+        if is_dropped(node)
+            || constant_at(self.scoping, self.constants, self.options, seat, node).is_some()
+        {
+            Inside::Skipped
+        } else {
+            Inside::ByField(seat_inside(self.scoping, self.kept, seat, node))
+        }
     }
 }
 
 /// What the node, which stands so, is to its fields.
-fn seat_inside(scoping: &Scoping, seat: Seat, node: &Node) -> Seat
-    ensures { result ≡ seat_inside scoping.now seat node.now.kind node.now.id.0 }
+fn seat_inside(scoping: &Scoping, kept: &NodeList, seat: Seat, node: &Node) -> Seat
+    ensures { result ≡ seat_inside scoping.now (is_in kept.now) seat node.now.kind node.now.id.0 }
 {
     if node.kind.is(Kind::TSEnumMember) && has_value(scoping, node.id) {
         Seat::Constant
     } else {
-        seat
+        seat_by(kept, seat, node.kind, node.id)
     }
 }
 
-/// What stands in that field of a node of that kind; nothing is left of the initializer of a member whose value is known.
+/// What stands in that field of a node of that kind, if anything of it is left.
 fn field_seat(seat: Seat, kind: Kind, row: &Row) -> Option<Seat>
     ensures { result ≡ field_seat seat kind (row_view row.now) }
 {
-    if is_constant(seat) && row.is(Field::Initializer) {
-        None
-    } else {
+    if is_left(seat, row) {
         Some(seat_in(seat, kind, row))
+    } else {
+        None
     }
+}
+
+/// Whether anything is left of what stands in that field: not of the initializer of a member whose value is known, and
+/// not of the right side of an `import a = ..` that is not kept.
+fn is_left(seat: Seat, row: &Row) -> bool
+    ensures { result ≡ is_left seat (row_view row.now) }
+{
+    !(is_constant(seat) && row.is(Field::Initializer))
+        && !(is_left_out(seat) && row.is(Field::ModuleReference))
 }
 
 /// The symbol that the node, which stands so, needs.

@@ -1,13 +1,16 @@
 //! What a node stands as, by what is around it.
 ghost use Rattle.std.specs.Prelude.{◌≡◌};
 ghost use Rattle.oxt_grammar.specs.Field.{row_view};
-ghost use Rattle.oxt_inline.specs.Seats.{has_own_name, is_constant, is_exported, is_name, is_value, passed, seat_in};
+ghost use Rattle.oxt_inline.specs.Seats.{dotted, has_dotted, has_own_name, is_alias, is_constant, is_exported, is_left_out, is_name, is_value, passed, seat_by, seat_in};
+ghost use Rattle.oxt_options.specs.Facts.{is_in};
 
 use crate::target::holds_target;
 use oxt_grammar::category::Category;
 use oxt_grammar::field::Field;
 use oxt_grammar::holds::Row;
 use oxt_grammar::kind::Kind;
+use oxt_modules::nodes::NodeList;
+use oxt_tree::ids::NodeId;
 
 /// What a node stands as.
 #[derive(Clone, Copy, Debug)]
@@ -24,6 +27,23 @@ pub enum Seat {
     Name,
     /// A part of a member of an enum whose value is known.
     Constant,
+    /// A part of an `import a = ..` that is kept. Its dotted name becomes a member expression.
+    Alias,
+    /// A part of an `import a = ..` that is not kept.
+    LeftOut,
+}
+
+/// What a node of that kind and number, which stands as that, is to its fields, by which `import a = ..` are kept.
+pub fn seat_by(kept: &NodeList, seat: Seat, kind: Kind, node: NodeId) -> Seat
+    ensures { result ≡ seat_by (is_in kept.now) seat kind node.0 }
+{
+    if !kind.is(Kind::TSImportEqualsDeclaration) {
+        seat
+    } else if kept.has(node) {
+        Seat::Alias
+    } else {
+        Seat::LeftOut
+    }
 }
 
 /// What a node stands as in that field of a node of that kind, which itself stands as that.
@@ -32,6 +52,8 @@ pub fn seat_in(seat: Seat, kind: Kind, row: &Row) -> Seat
 {
     if Category::Transparent.contains(kind) {
         passed(seat)
+    } else if has_dotted(kind) {
+        dotted(seat)
     } else if kind.is(Kind::ChainExpression) {
         Seat::Element
     } else if kind.is(Kind::ExportDeclaration) {
@@ -52,6 +74,27 @@ fn passed(seat: Seat) -> Seat
     match seat {
         Seat::Target => Seat::Target,
         Seat::Element => Seat::Element,
+        _ => Seat::Value,
+    }
+}
+
+/// Whether a node of the kind is `import a = ..`, or a dotted name.
+fn has_dotted(kind: Kind) -> bool
+    ensures { result ≡ has_dotted kind }
+{
+    match kind {
+        Kind::TSImportEqualsDeclaration => true,
+        Kind::TSQualifiedName => true,
+        _ => false,
+    }
+}
+
+/// What stands in such a node that stands as that.
+fn dotted(seat: Seat) -> Seat
+    ensures { result ≡ dotted seat }
+{
+    match seat {
+        Seat::Alias => Seat::Alias,
         _ => Seat::Value,
     }
 }
@@ -104,6 +147,26 @@ pub fn is_constant(seat: Seat) -> bool
 {
     match seat {
         Seat::Constant => true,
+        _ => false,
+    }
+}
+
+/// Whether it is a part of an `import a = ..` that is kept.
+pub fn is_alias(seat: Seat) -> bool
+    ensures { result ≡ is_alias seat }
+{
+    match seat {
+        Seat::Alias => true,
+        _ => false,
+    }
+}
+
+/// Whether it is a part of an `import a = ..` that is not kept.
+pub fn is_left_out(seat: Seat) -> bool
+    ensures { result ≡ is_left_out seat }
+{
+    match seat {
+        Seat::LeftOut => true,
         _ => false,
     }
 }

@@ -2,7 +2,7 @@
 ghost use Rattle.std.specs.Prelude.{◌≡◌, ◌<◌, Some, length, option_map, slice_get};
 ghost use Rattle.oxt_grammar.specs.Keys.{key_of as field_key};
 ghost use Rattle.oxt_inline.specs.Constants.{table_at};
-ghost use Rattle.oxt_inline.specs.Values.{constant_in_enum, is_optimized, key_of, key_text, member_constant, optional_constant, optimizes};
+ghost use Rattle.oxt_inline.specs.Values.{constant_in_enum, dotted_constant, is_optimized, key_of, key_text, member_constant, optional_constant, optimizes};
 ghost use Rattle.oxt_names.specs.Constant.{constant_view};
 ghost use Rattle.oxt_options.specs.Options.{typescript_view};
 ghost use Rattle.oxt_tree.specs.View.{doc_or_nil, docs_in, node_doc};
@@ -55,6 +55,25 @@ pub fn optional_constant<'a>(
     } else {
         None
     }
+}
+
+/// The constant that the node reads, if it is a dotted name that names a member of an enum by a bare name of the enum, and
+/// the members of that are inlined.
+pub fn dotted_constant<'a>(
+    scoping: &Scoping,
+    constants: &Constants<'a>,
+    options: &TypeScriptOptions,
+    node: &Node,
+) -> Option<&'a ConstantValue>
+    ensures { option_map (λ value. constant_view value.now) result
+        ≡ dotted_constant scoping.now (table_at constants.now) (typescript_view options.now) node.now.kind (docs_in node.now.parts.items) }
+{
+    if !node.kind.is(Kind::TSQualifiedName) {
+        return None;
+    }
+    let key = key_text(node.field(Field::Right), Field::Name)?;
+    let symbol = meant_by(scoping, node.field(Field::Left));
+    constant_in_enum(scoping, constants, options, symbol, key)
 }
 
 /// The name of the member that the node names, if it is a member expression whose key is a name or a text.

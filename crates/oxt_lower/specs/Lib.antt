@@ -1,5 +1,4 @@
 pub mod Context
 pub mod Named
-pub mod Nodes
 pub mod Spare
 pub mod Statement

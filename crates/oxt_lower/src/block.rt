@@ -5,9 +5,9 @@ ghost use Rattle.oxt_lower.specs.Context.{but_table_of};
 use crate::facts::{BlockFacts, home_of};
 use crate::function::block_call;
 use crate::members::{Taken, members_in, take_members};
-use crate::nodes::{assignment, binding, make, statement};
 use crate::rename::IdentifierReferenceRename;
 use oxt_ctx::context::TraverseCtx;
+use oxt_ctx::nodes::{assignment, declaration, statement};
 use oxt_grammar::kind::Kind;
 use oxt_grammar::word::Word;
 use oxt_names::flags::ReferenceFlags;
@@ -80,45 +80,11 @@ fn enum_statement(
     ensures frame { OnOk result (ctx.new ≡ but_table_of ctx.old ctx.new) }
 {
     if block.is_first {
-        enum_declaration(alloc, &block.name, block.is_let, value, &mut ctx.ids)
+        let keyword = if block.is_let { Word::Let } else { Word::Var };
+        declaration(alloc, keyword, &block.name, Some(value), &mut ctx.ids)
     } else {
         enum_assignment(alloc, block, value, ctx)
     }
-}
-
-/// `let E = value;`, or the same with `var`.
-fn enum_declaration(
-    alloc: Global,
-    name: &Name,
-    is_let: bool,
-    value: Node,
-    ids: &mut NodeIds,
-) -> Result<Node, OutOfMemory> {
-    let pattern = binding(alloc, name, ids)?;
-    let declared = declarator(alloc, pattern, value, ids)?;
-    let declarators = vec![in alloc; Part::Node(declared)]?;
-    let parts = vec![in alloc;
-        Part::Word(if is_let { Word::Let } else { Word::Var }),
-        Part::List(declarators),
-        Part::Flag(false),
-    ]?;
-    make(Kind::VariableDeclaration, parts, ids)
-}
-
-/// A declarator of that pattern and that value, without a type.
-fn declarator(
-    alloc: Global,
-    pattern: Node,
-    value: Node,
-    ids: &mut NodeIds,
-) -> Result<Node, OutOfMemory> {
-    let parts = vec![in alloc;
-        Part::Node(pattern),
-        Part::Nothing,
-        Part::Flag(false),
-        Part::Node(value),
-    ]?;
-    make(Kind::VariableDeclarator, parts, ids)
 }
 
 /// `E = value;`.

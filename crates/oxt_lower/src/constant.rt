@@ -2,7 +2,7 @@
 ghost use Rattle.std.specs.Prelude.{◌≡◌};
 ghost use Rattle.oxt_names.specs.Integer.{is_negative};
 
-use crate::nodes::{negative, number_literal, string_literal};
+use oxt_ctx::nodes::{negative, number_literal, string_literal};
 use oxt_names::constant::ConstantValue;
 use oxt_tree::ids::{NodeIds, OutOfMemory};
 use oxt_tree::tree::Node;

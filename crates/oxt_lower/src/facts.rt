@@ -49,8 +49,8 @@ impl BlockFacts {
     }
 }
 
-/// The name of the enum; the empty one where it has none.
-fn name_of(declaration: &Node) -> Result<Name, OutOfMemory> {
+/// The name of what is declared; the empty one where it has none.
+pub fn name_of(declaration: &Node) -> Result<Name, OutOfMemory> {
     let alloc = *declaration.parts.allocator();
     match field_within(declaration, Field::Id, Field::Name) {
         Some(part) => text_of(alloc, part),
@@ -67,8 +67,8 @@ pub fn text_of(alloc: Global, part: &Part) -> Result<Name, OutOfMemory> {
     }
 }
 
-/// The symbol of the enum.
-fn symbol_of(scoping: &Scoping, declaration: &Node) -> Option<SymbolId>
+/// The symbol of what is declared.
+pub fn symbol_of(scoping: &Scoping, declaration: &Node) -> Option<SymbolId>
     ensures live { IfSome result (λ enum. enum.0 < length scoping.now.symbols) }
 {
     scoping.symbol_of(number_of(declaration.field(Field::Id)))

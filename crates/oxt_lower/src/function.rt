@@ -4,11 +4,11 @@ ghost use Rattle.oxt_lower.specs.Context.{but_table_of};
 
 use crate::facts::BlockFacts;
 use crate::members::{Member, Taken};
-use crate::nodes::{alternative, empty_object, make};
 use crate::puts::function_statements;
 use bitflags::Flags;
 use oxt_ctx::bound::BindingNodes;
 use oxt_ctx::context::TraverseCtx;
+use oxt_ctx::nodes::{alternative, empty_object, make};
 use oxt_grammar::kind::Kind;
 use oxt_names::flags::{ReferenceFlags, ScopeFlags, SymbolFlags};
 use oxt_names::ids::{ScopeId, SymbolId};
@@ -37,7 +37,8 @@ pub fn open_function(name: &Name, ctx: &mut TraverseCtx) -> Result<Opened, OutOf
     ensures frame { OnOk result (ctx.new ≡ but_table_of ctx.old ctx.new) }
 {
     let function = ctx.ids.fresh()?;
-    let scope = open_scope(function, ctx)?;
+    let around = ctx.current_scope_id();
+    let scope = open_scope(function, around, ctx)?;
     let parameter = ctx.generate_binding(name, scope, SymbolFlags::FunctionScopedVariable)?;
     Ok(Opened {
         function,
@@ -45,14 +46,18 @@ pub fn open_function(name: &Name, ctx: &mut TraverseCtx) -> Result<Opened, OutOf
     })
 }
 
-/// Opens the scope of the function of that number in the current one.
-fn open_scope(function: NodeId, ctx: &mut TraverseCtx) -> Result<ScopeId, OutOfMemory>
+/// Opens the scope of the function of that number in that one.
+pub fn open_scope(
+    function: NodeId,
+    around: ScopeId,
+    ctx: &mut TraverseCtx,
+) -> Result<ScopeId, OutOfMemory>
+    requires { around.0 < length ctx.old.scoping.scopes }
     ensures live { IfOk result (λ scope. scope.0 < length ctx.new.scoping.scopes) }
     ensures symbols_stay { OnOk result
         (length ctx.new.scoping.symbols ≡ length ctx.old.scoping.symbols) }
     ensures frame { OnOk result (ctx.new ≡ but_table_of ctx.old ctx.new) }
 {
-    let around = ctx.current_scope_id();
     let flags = function_flags(ctx.scoping.scope_flags(around));
     ctx.scoping.open_scope(function, around, flags)
 }
@@ -126,21 +131,25 @@ fn enum_function(
         (length ctx.new.scoping.symbols ≡ length ctx.old.scoping.symbols) }
 {
     let statements = function_statements(alloc, members, &opened.parameter, ctx)?;
-    let pattern = opened.parameter.create_binding_pattern(ctx)?;
-    function_with(alloc, opened.function, pattern, statements, &mut ctx.ids)
+    let no_directives = Vec::new(alloc);
+    let body = body_of(alloc, no_directives, statements, &mut ctx.ids)?;
+    function_with(alloc, opened, body, ctx)
 }
 
-/// The function of that number, with one parameter of that pattern, and with these statements.
-fn function_with(
+/// The function, which has that body.
+pub fn function_with(
     alloc: Global,
-    number: NodeId,
-    pattern: Node,
-    statements: Vec<Part>,
-    ids: &mut NodeIds,
-) -> Result<Node, OutOfMemory> {
-    let parameters = parameters_of(alloc, pattern, ids)?;
-    let body = body_of(alloc, statements, ids)?;
-    function_of(alloc, number, parameters, body)
+    opened: Opened,
+    body: Node,
+    ctx: &mut TraverseCtx,
+) -> Result<Node, OutOfMemory>
+    ensures frame { OnOk result (ctx.new ≡ but_table_of ctx.old ctx.new) }
+    ensures symbols_stay { OnOk result
+        (length ctx.new.scoping.symbols ≡ length ctx.old.scoping.symbols) }
+{
+    let pattern = opened.parameter.create_binding_pattern(ctx)?;
+    let parameters = parameters_of(alloc, pattern, &mut ctx.ids)?;
+    function_of(alloc, opened.function, parameters, body)
 }
 
 /// The parameters of a function: one of that pattern.
@@ -167,8 +176,13 @@ fn parameter_of(alloc: Global, pattern: Node, ids: &mut NodeIds) -> Result<Node,
 }
 
 /// The body of a function.
-fn body_of(alloc: Global, statements: Vec<Part>, ids: &mut NodeIds) -> Result<Node, OutOfMemory> {
-    let parts = vec![in alloc; Part::List(Vec::new(alloc)), Part::List(statements)]?;
+pub fn body_of(
+    alloc: Global,
+    directives: Vec<Part>,
+    statements: Vec<Part>,
+    ids: &mut NodeIds,
+) -> Result<Node, OutOfMemory> {
+    let parts = vec![in alloc; Part::List(directives), Part::List(statements)]?;
     make(Kind::FunctionBody, parts, ids)
 }
 
@@ -218,7 +232,7 @@ fn argument_of(
 }
 
 /// A call with one argument.
-fn call_of(
+pub fn call_of(
     alloc: Global,
     callee: Node,
     argument: Node,

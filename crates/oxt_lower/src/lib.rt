@@ -1,4 +1,4 @@
-//! Enums lowered to functions that make their objects.
+//! Enums and namespaces lowered to functions that make their objects.
 #![tactic(auto)]
 
 mod block;
@@ -7,7 +7,11 @@ mod facts;
 mod function;
 mod inline;
 mod members;
-mod nodes;
+pub mod namespace;
+mod namespace_block;
+mod namespace_call;
+mod namespace_export;
+mod namespace_list;
 pub mod pass;
 mod puts;
 pub mod rename;

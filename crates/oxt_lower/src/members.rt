@@ -140,7 +140,7 @@ fn take_from(part: &mut Part, field: Field) -> Part {
 }
 
 /// Takes what the field of that name holds.
-fn take_field(node: &mut Node, field: Field) -> Part {
+pub fn take_field(node: &mut Node, field: Field) -> Part {
     match place_of(node.kind.rows(), field) {
         Some(place) if place < node.parts.len() => node.parts[place].take(),
         _ => Part::Nothing,

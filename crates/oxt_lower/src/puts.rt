@@ -4,12 +4,12 @@ ghost use Rattle.oxt_lower.specs.Context.{but_table_of};
 
 use crate::constant::constant_literal;
 use crate::members::{Member, Value};
-use crate::nodes::{
-    assignment, computed, number_literal, returned, statement, string_literal, sum,
-};
 use crate::syntax;
 use oxt_ctx::bound::BindingNodes;
 use oxt_ctx::context::TraverseCtx;
+use oxt_ctx::nodes::{
+    assignment, computed, number_literal, returned, statement, string_literal, sum,
+};
 use oxt_names::constant::ConstantValue;
 use oxt_stores::bound::BoundIdentifier;
 use oxt_tree::ids::OutOfMemory;

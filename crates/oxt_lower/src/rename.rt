@@ -18,10 +18,10 @@ ghost use Rattle.oxt_tree.specs.View.{node_doc};
 ghost use Rattle.oxt_visit.specs.Weight.{weight};
 
 use crate::facts::text_of;
-use crate::nodes::{member, property_name, reference};
 use crate::shorthand::open_properties;
 use bitflags::Flags;
 use oxt_ctx::context::TraverseCtx;
+use oxt_ctx::nodes::{member, property_name, reference};
 use oxt_grammar::field::Field;
 use oxt_grammar::kind::Kind;
 use oxt_names::flags::{ReferenceFlags, SymbolFlags};

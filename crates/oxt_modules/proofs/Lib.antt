@@ -1,3 +1,5 @@
 pub mod Loops
+pub mod Marks
+pub mod Known
 pub mod Tables
 pub mod Uses

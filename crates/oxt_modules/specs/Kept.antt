@@ -1,7 +1,10 @@
--- The specifiers of imports and exports that are kept.
+-- The specifiers of imports and exports, and the declarations `import a = ..`, that are kept.
 use Rattle.std.specs.Prelude.{ℕ, List, [], ◌∷◌, ◌++◌, Bool, true, false, not, ◌&&◌, ◌||◌, if◌then◌else◌, Option, None, Some, codes}
+use Rattle.oxt_modules.specs.Aliases.{aliases}
 use Rattle.oxt_modules.specs.Jsx.{is_jsx_text, jsx_use}
+use Rattle.oxt_modules.specs.Marked.{beside, marked}
 use Rattle.oxt_modules.specs.Names.{is_declared_again, is_name_kept, is_used}
+use Rattle.oxt_modules.specs.declared.alias.Alias.{Alias}
 use Rattle.oxt_modules.specs.declared.jsx.JsxUse.{JsxUse}
 use Rattle.oxt_modules.specs.declared.kept.Place.{Place}
 use Rattle.oxt_modules.specs.declared.kept.Place.TheVariants as place
@@ -87,6 +90,20 @@ abbrev pub kept_in_statements : Scoped → TypeScriptData → JsxUse → Docs �
 kept_in_statements s o u no_docs = []
 kept_in_statements s o u (doc d ds) = kept_in_statement s o u d ++ kept_in_statements s o u ds
 
--- what is kept of a program
+-- A declaration `import a = ..` is kept that is exported or that a value use means, or where unused imports are kept.
+abbrev pub is_alias_kept : Scoped → TypeScriptData → Alias → Bool
+is_alias_kept s o a = a.is_exported || (o.only_remove_type_imports || is_used s a.name.0)
+
+-- the numbers of those that are kept
+abbrev pub kept_aliases : Scoped → TypeScriptData → List Alias → List ℕ
+kept_aliases s o [] = []
+kept_aliases s o (a ∷ xs) = kept_if (is_alias_kept s o a) a.node.0 ++ kept_aliases s o xs
+
+-- what is kept of a program, of which that is the table
+abbrev pub kept_by : Scoped → Doc → TypeScriptData → List ℕ
+kept_by s d o = kept_in_statements s o (jsx_use d) (elements (field_of (codes "body") d)) ++ kept_aliases s o (aliases d)
+
+-- What is kept of a program: specifiers, names that are exported by default, and declarations `import a = ..`. Names in the
+-- right sides of those that nothing uses are no uses themselves.
 abbrev pub kept : Scoped → Doc → TypeScriptData → List ℕ
-kept s d o = kept_in_statements s o (jsx_use d) (elements (field_of (codes "body") d))
+kept s d o = kept_by (beside (marked s d o) s) d o

@@ -1,6 +1,7 @@
 -- What imports and exports ask of a symbol of the table, answered once for each.
 use Rattle.std.specs.Prelude.{ℕ, List, Bool, false, not, ◌||◌, ◌==◌, ◌≡◌, Option, None, Some, find, map, option_map}
 use Rattle.std.specs.List.{list_any}
+use Rattle.oxt_modules.specs.Marked.{beside}
 use Rattle.oxt_modules.specs.Names.{has_other_value, has_value_use}
 use Rattle.oxt_modules.specs.declared.symbols.SymbolAnswers.{SymbolAnswers}
 use Rattle.oxt_modules.specs.declared.symbols.Symbols.{Symbols}
@@ -33,9 +34,13 @@ asked ss y = record {
 abbrev pub all_asked : Scoped → List SymbolAnswers
 all_asked s = map (asked s.references) s.symbols
 
+-- the table, in which the marked names are no references
+abbrev pub table_of : Symbols → Scoped
+table_of t = beside t.marked t.scoping.now
+
 -- The answers are those of the table.
 abbrev pub IsAnswered : Symbols → Type 0
-IsAnswered t = t.answers.items ≡ all_asked t.scoping.now
+IsAnswered t = t.answers.items ≡ all_asked (table_of t)
 
 -- a node other than that is the first, or there is another
 abbrev pub besides : ℕ → Option NodeId → Bool → Bool

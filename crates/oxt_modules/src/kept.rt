@@ -1,15 +1,18 @@
-//! The specifiers that are kept.
+//! The specifiers, and the declarations `import a = ..`, that are kept.
 ghost use Rattle.std.specs.Prelude.{◌≡◌, ◌++◌, IfOk, OnOk, codes};
-ghost use Rattle.oxt_modules.specs.Kept.{exported_name, is_kept, is_local_kept, is_reference_kept, is_spelling_kept, is_text_kept, kept, kept_default, kept_if, kept_in_list, kept_in_statement, kept_in_statements, kept_specifier, place_of};
+ghost use Rattle.oxt_modules.specs.Kept.{exported_name, is_alias_kept, is_kept, is_local_kept, is_reference_kept, is_spelling_kept, is_text_kept, kept, kept_aliases, kept_by, kept_default, kept_if, kept_in_list, kept_in_statement, kept_in_statements, kept_specifier, place_of};
 ghost use Rattle.oxt_modules.specs.Jsx.{is_jsx_text};
-ghost use Rattle.oxt_modules.specs.Symbols.{IsAnswered};
+ghost use Rattle.oxt_modules.specs.Symbols.{IsAnswered, table_of};
 ghost use Rattle.oxt_options.specs.Options.{typescript_view};
 ghost use Rattle.oxt_options.specs.Lists.{numbers_in};
 ghost use Rattle.oxt_tree.specs.Fields.{named};
 ghost use Rattle.oxt_tree.specs.View.{doc_or_nil, docs_in, node_doc, part_doc};
 
+use crate::alias::{Alias, aliases_of};
 use crate::jsx::{JsxUse, is_jsx_name, jsx_use};
+use crate::marked::marked_names;
 use crate::names::{is_declared_again, is_name_kept, is_used};
+use crate::nodes::NodeList;
 use crate::symbols::Symbols;
 use oxt_grammar::field::Field;
 use oxt_grammar::kind::Kind;
@@ -30,26 +33,71 @@ pub enum Place {
     ExportFrom,
 }
 
-/// The numbers of the import and export specifiers that are kept, in the order of the text, and those of
-/// the names that `export default` exports and keeps. `scoping` is the table of the program.
+/// The numbers of the import and export specifiers that are kept, in the order of the text, with those of the names that
+/// `export default` exports and keeps, and behind them those of the declarations `import a = ..` that are kept. `scoping`
+/// is the table of the program.
 ///
 /// # Errors
 ///
 /// Nothing but want of memory.
-pub fn kept_specifiers(
+pub fn kept_nodes(
     alloc: Global,
     program: &Node,
     scoping: &Scoping,
     options: &TypeScriptOptions,
-) -> Result<Vec<NodeId>, OutOfMemory>
-    ensures { IfOk result (λ nodes. numbers_in nodes.items
+) -> Result<NodeList, OutOfMemory>
+    ensures { IfOk result (λ nodes. nodes
         ≡ kept scoping.now (node_doc program.now) (typescript_view options.now)) }
 {
-    let symbols = Symbols::of(alloc, scoping)?;
+    let marked = marked_names(alloc, program, scoping, options)?;
+    let symbols = Symbols::of(alloc, scoping, marked)?;
+    let nodes = kept_by(alloc, program, &symbols, options)?;
+    NodeList::of(alloc, nodes)
+}
+
+/// The same, by what is asked of the symbols.
+fn kept_by(
+    alloc: Global,
+    program: &Node,
+    symbols: &Symbols,
+    options: &TypeScriptOptions,
+) -> Result<Vec<NodeId>, OutOfMemory>
+    requires { IsAnswered symbols.now }
+    ensures { IfOk result (λ nodes. numbers_in nodes.items
+        ≡ kept_by (table_of symbols.now) (node_doc program.now) (typescript_view options.now)) }
+{
     let jsx = jsx_use(program);
+    let aliases = aliases_of(alloc, program)?;
     let mut out = Vec::new(alloc);
-    push_statements(&symbols, options, jsx, program.list(Field::Body), &mut out)?;
+    push_statements(symbols, options, jsx, program.list(Field::Body), &mut out)?;
+    push_aliases(symbols, options, aliases.as_slice(), &mut out)?;
     Ok(out)
+}
+
+/// Appends those of the declarations `import a = ..` that are kept.
+#[tactic(auto, using(crate::proofs::Loops::alias_steps))]
+fn push_aliases(
+    symbols: &Symbols,
+    options: &TypeScriptOptions,
+    aliases: &[Alias],
+    out: &mut Vec<NodeId>,
+) -> Result<(), OutOfMemory>
+    requires { IsAnswered symbols.now }
+    ensures { OnOk result (numbers_in out.new.items ≡ numbers_in out.old.items
+        ++ kept_aliases (table_of symbols.now) (typescript_view options.now) aliases.now) }
+{
+    for alias in aliases {
+        push_if(is_alias_kept(symbols, options, *alias), alias.node, out)?;
+    }
+    Ok(())
+}
+
+/// Whether the declaration is kept.
+fn is_alias_kept(symbols: &Symbols, options: &TypeScriptOptions, alias: Alias) -> bool
+    requires { IsAnswered symbols.now }
+    ensures { result ≡ is_alias_kept (table_of symbols.now) (typescript_view options.now) alias }
+{
+    alias.is_exported || (options.only_remove_type_imports || is_used(symbols, alias.name))
 }
 
 /// Appends what is kept of the statements.
@@ -63,7 +111,7 @@ fn push_statements(
 ) -> Result<(), OutOfMemory>
     requires { IsAnswered symbols.now }
     ensures { OnOk result (numbers_in out.new.items ≡ numbers_in out.old.items
-        ++ kept_in_statements symbols.now.scoping.now (typescript_view options.now) jsx (docs_in parts.now)) }
+        ++ kept_in_statements (table_of symbols.now) (typescript_view options.now) jsx (docs_in parts.now)) }
 {
     for part in parts {
         push_part(symbols, options, jsx, part, out)?;
@@ -81,7 +129,7 @@ fn push_part(
 ) -> Result<(), OutOfMemory>
     requires { IsAnswered symbols.now }
     ensures { OnOk result (numbers_in out.new.items ≡ numbers_in out.old.items
-        ++ kept_in_statement symbols.now.scoping.now (typescript_view options.now) jsx (part_doc part.now)) }
+        ++ kept_in_statement (table_of symbols.now) (typescript_view options.now) jsx (part_doc part.now)) }
 {
     match part {
         Part::Node(node) => push_statement(symbols, options, jsx, node, out),
@@ -99,7 +147,7 @@ fn push_statement(
 ) -> Result<(), OutOfMemory>
     requires { IsAnswered symbols.now }
     ensures { OnOk result (numbers_in out.new.items ≡ numbers_in out.old.items
-        ++ kept_in_statement symbols.now.scoping.now (typescript_view options.now) jsx (node_doc node.now)) }
+        ++ kept_in_statement (table_of symbols.now) (typescript_view options.now) jsx (node_doc node.now)) }
 {
     if node.is_type_only() {
         return Ok(());
@@ -140,7 +188,7 @@ fn push_specifiers(
 ) -> Result<(), OutOfMemory>
     requires { IsAnswered symbols.now }
     ensures { OnOk result (numbers_in out.new.items ≡ numbers_in out.old.items
-        ++ kept_in_list symbols.now.scoping.now (typescript_view options.now) jsx place (docs_in parts.now)) }
+        ++ kept_in_list (table_of symbols.now) (typescript_view options.now) jsx place (docs_in parts.now)) }
 {
     for part in parts {
         push_specifier(symbols, options, jsx, place, part, out)?;
@@ -159,7 +207,7 @@ fn push_specifier(
 ) -> Result<(), OutOfMemory>
     requires { IsAnswered symbols.now }
     ensures { OnOk result (numbers_in out.new.items ≡ numbers_in out.old.items
-        ++ kept_specifier symbols.now.scoping.now (typescript_view options.now) jsx place (part_doc part.now)) }
+        ++ kept_specifier (table_of symbols.now) (typescript_view options.now) jsx place (part_doc part.now)) }
 {
     match part {
         Part::Node(node) => {
@@ -191,7 +239,7 @@ fn is_kept(
     node: &Node,
 ) -> bool
     requires { IsAnswered symbols.now }
-    ensures { result ≡ is_kept symbols.now.scoping.now (typescript_view options.now) jsx place
+    ensures { result ≡ is_kept (table_of symbols.now) (typescript_view options.now) jsx place
         (named (codes "local") node.now.kind (docs_in node.now.parts.items)) }
 {
     match place {
@@ -212,7 +260,7 @@ fn is_local_kept(
     local: Option<&Part>,
 ) -> bool
     requires { IsAnswered symbols.now }
-    ensures { result ≡ is_local_kept symbols.now.scoping.now (typescript_view options.now) jsx (doc_or_nil local.entry) }
+    ensures { result ≡ is_local_kept (table_of symbols.now) (typescript_view options.now) jsx (doc_or_nil local.entry) }
 {
     match local {
         Some(Part::Node(node)) => is_binding_kept(symbols, options, jsx, node),
@@ -223,7 +271,7 @@ fn is_local_kept(
 /// Whether an import that binds the name of that node is kept, if unused imports are not.
 fn is_binding_kept(symbols: &Symbols, options: &TypeScriptOptions, jsx: JsxUse, node: &Node) -> bool
     requires { IsAnswered symbols.now }
-    ensures { result ≡ is_local_kept symbols.now.scoping.now (typescript_view options.now) jsx (node_doc node.now) }
+    ensures { result ≡ is_local_kept (table_of symbols.now) (typescript_view options.now) jsx (node_doc node.now) }
 {
     !is_declared_again(symbols, node.id)
         && (is_used(symbols, node.id) || is_jsx_binding(options, jsx, node))
@@ -254,7 +302,7 @@ fn is_jsx_part(options: &TypeScriptOptions, jsx: JsxUse, part: &Part) -> bool
 /// Whether an export of the name that is the node there is kept.
 fn is_spelling_kept(symbols: &Symbols, local: Option<&Part>) -> bool
     requires { IsAnswered symbols.now }
-    ensures { result ≡ is_spelling_kept symbols.now.scoping.now (doc_or_nil local.entry) }
+    ensures { result ≡ is_spelling_kept (table_of symbols.now) (doc_or_nil local.entry) }
 {
     match local {
         Some(Part::Node(node)) => is_text_kept(symbols, node.field(Field::Name)),
@@ -265,7 +313,7 @@ fn is_spelling_kept(symbols: &Symbols, local: Option<&Part>) -> bool
 /// Whether an export of the name that is the text there is kept.
 fn is_text_kept(symbols: &Symbols, text: Option<&Part>) -> bool
     requires { IsAnswered symbols.now }
-    ensures { result ≡ is_text_kept symbols.now.scoping.now (doc_or_nil text.entry) }
+    ensures { result ≡ is_text_kept (table_of symbols.now) (doc_or_nil text.entry) }
 {
     match text {
         Some(Part::Text(name)) => is_name_kept(symbols, name.as_str()),
@@ -278,7 +326,7 @@ fn is_text_kept(symbols: &Symbols, text: Option<&Part>) -> bool
 fn push_default(symbols: &Symbols, node: &Node, out: &mut Vec<NodeId>) -> Result<(), OutOfMemory>
     requires { IsAnswered symbols.now }
     ensures { OnOk result (numbers_in out.new.items ≡ numbers_in out.old.items
-        ++ kept_default symbols.now.scoping.now node.now.kind (docs_in node.now.parts.items)) }
+        ++ kept_default (table_of symbols.now) node.now.kind (docs_in node.now.parts.items)) }
 {
     if node.kind.is(Kind::ExportDefaultDeclaration) {
         push_exported(symbols, node.field(Field::Declaration), out)
@@ -295,7 +343,7 @@ fn push_exported(
 ) -> Result<(), OutOfMemory>
     requires { IsAnswered symbols.now }
     ensures { OnOk result (numbers_in out.new.items ≡ numbers_in out.old.items
-        ++ exported_name symbols.now.scoping.now (doc_or_nil declaration.entry)) }
+        ++ exported_name (table_of symbols.now) (doc_or_nil declaration.entry)) }
 {
     match declaration {
         Some(Part::Node(node)) => push_if(is_reference_kept(symbols, node), node.id, out),
@@ -306,7 +354,7 @@ fn push_exported(
 /// Whether the node is a bare name whose export is kept.
 fn is_reference_kept(symbols: &Symbols, node: &Node) -> bool
     requires { IsAnswered symbols.now }
-    ensures { result ≡ is_reference_kept symbols.now.scoping.now node.now.kind (docs_in node.now.parts.items) }
+    ensures { result ≡ is_reference_kept (table_of symbols.now) node.now.kind (docs_in node.now.parts.items) }
 {
     node.kind.is(Kind::IdentifierReference) && is_text_kept(symbols, node.field(Field::Name))
 }

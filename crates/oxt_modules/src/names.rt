@@ -1,7 +1,7 @@
 //! What the table says of the names of imports and exports.
 ghost use Rattle.std.specs.Prelude.{◌≡◌, option_map};
 ghost use Rattle.oxt_modules.specs.Names.{declared_symbol, is_declared_again, is_name_kept, is_type_name, is_used};
-ghost use Rattle.oxt_modules.specs.Symbols.{IsAnswered, asked};
+ghost use Rattle.oxt_modules.specs.Symbols.{IsAnswered, asked, table_of};
 
 use crate::symbols::{SymbolAnswers, Symbols};
 use oxt_tree::ids::NodeId;
@@ -10,7 +10,7 @@ use oxt_tree::ids::NodeId;
 fn declared_by(symbols: &Symbols, node: NodeId) -> Option<SymbolAnswers>
     requires { IsAnswered symbols.now }
     ensures { result
-        ≡ option_map (asked symbols.now.scoping.now.references) (declared_symbol symbols.now.scoping.now node.0) }
+        ≡ option_map (asked (table_of symbols.now).references) (declared_symbol (table_of symbols.now) node.0) }
 {
     symbols.get(symbols.scoping.symbol_of(node))
 }
@@ -19,7 +19,7 @@ fn declared_by(symbols: &Symbols, node: NodeId) -> Option<SymbolAnswers>
 #[tactic(auto, using(crate::proofs::Tables::again_found))]
 pub fn is_declared_again(symbols: &Symbols, node: NodeId) -> bool
     requires { IsAnswered symbols.now }
-    ensures { result ≡ is_declared_again symbols.now.scoping.now node.0 }
+    ensures { result ≡ is_declared_again (table_of symbols.now) node.0 }
 {
     match declared_by(symbols, node) {
         Some(symbol) => symbol.declares_besides(node),
@@ -31,7 +31,7 @@ pub fn is_declared_again(symbols: &Symbols, node: NodeId) -> bool
 #[tactic(auto, using(crate::proofs::Tables::use_found))]
 pub fn is_used(symbols: &Symbols, node: NodeId) -> bool
     requires { IsAnswered symbols.now }
-    ensures { result ≡ is_used symbols.now.scoping.now node.0 }
+    ensures { result ≡ is_used (table_of symbols.now) node.0 }
 {
     match declared_by(symbols, node) {
         Some(symbol) => symbol.is_used,
@@ -43,7 +43,7 @@ pub fn is_used(symbols: &Symbols, node: NodeId) -> bool
 #[tactic(auto, using(crate::proofs::Tables::emission_found))]
 fn is_type_name(symbols: &Symbols, name: &str) -> bool
     requires { IsAnswered symbols.now }
-    ensures { result ≡ is_type_name symbols.now.scoping.now name.now }
+    ensures { result ≡ is_type_name (table_of symbols.now) name.now }
 {
     let root = symbols.scoping.root_scope_id();
     match symbols.get(symbols.scoping.get_binding(root, name)) {
@@ -55,7 +55,7 @@ fn is_type_name(symbols: &Symbols, name: &str) -> bool
 /// Whether an export of the name stays.
 pub fn is_name_kept(symbols: &Symbols, name: &str) -> bool
     requires { IsAnswered symbols.now }
-    ensures { result ≡ is_name_kept symbols.now.scoping.now name.now }
+    ensures { result ≡ is_name_kept (table_of symbols.now) name.now }
 {
     !is_type_name(symbols, name)
 }

@@ -1,7 +1,7 @@
 //! Which imports and exports of a module are removed.
 ghost use Rattle.std.specs.Prelude.{◌≡◌, codes};
 ghost use Rattle.std.specs.List.{list_any};
-ghost use Rattle.oxt_modules.specs.Removed.{is_export_list, is_kept, is_listing, is_nothing, is_removed, loses_all};
+ghost use Rattle.oxt_modules.specs.Removed.{exports_lowered, is_counted_removed, is_export_list, is_export_removed, is_kept, is_listing, is_lowered, is_lowered_node, is_nothing, is_removed, loses_all};
 ghost use Rattle.oxt_options.specs.Facts.{is_in};
 ghost use Rattle.oxt_tree.specs.Doc.{list};
 ghost use Rattle.oxt_tree.specs.Fields.{is_empty_list, named};
@@ -60,7 +60,7 @@ fn is_export_list(kind: Kind) -> bool
     kind.is(Kind::ExportNamedDeclaration) || kind.is(Kind::ExportFromDeclaration)
 }
 
-/// Whether the part is an import or an export that goes.
+/// Whether the part is an import or an export that goes, an `import =` too.
 pub fn is_removed(plan: &Plan, all: bool, part: &Part) -> bool
     ensures { result ≡ is_removed (is_in plan.now.kept) all (part_doc part.now) }
 {
@@ -71,9 +71,57 @@ pub fn is_removed(plan: &Plan, all: bool, part: &Part) -> bool
 }
 
 /// Whether the node is an import or an export that goes: it stands for nothing at run time, or lists names of which the
-/// plan keeps none. With `all` an import that loses its specifiers stays.
+/// plan keeps none, or is an `import =` without `export` that the plan does not keep. With `all` an import that loses its
+/// specifiers stays.
 pub fn node_is_removed(plan: &Plan, all: bool, node: &Node) -> bool
     ensures { result ≡ is_removed (is_in plan.now.kept) all (node_doc node.now) }
+{
+    if node.kind.is(Kind::TSImportEqualsDeclaration) {
+        !plan.keeps(node.id)
+    } else {
+        is_export_removed(plan, all, node)
+    }
+}
+
+/// Whether the part is an import or an export that goes, other than an export of a namespace or an external module
+/// without `declare`, which goes with the namespaces. An `import =` without `export` does not count.
+pub fn is_counted_removed(plan: &Plan, all: bool, part: &Part) -> bool
+    ensures { result ≡ is_counted_removed (is_in plan.now.kept) all (part_doc part.now) }
+{
+    match part {
+        Part::Node(node) => is_export_removed(plan, all, node) && !exports_lowered(node),
+        _ => false,
+    }
+}
+
+/// Whether the node exports a namespace or an external module without `declare`.
+fn exports_lowered(node: &Node) -> bool
+    ensures { result ≡ exports_lowered node.now.kind (docs_in node.now.parts.items) }
+{
+    node.kind.is(Kind::ExportDeclaration) && declares_lowered(node)
+}
+
+/// Whether what the node declares is such.
+fn declares_lowered(node: &Node) -> bool
+    ensures { result ≡ is_lowered_node (named (codes "declaration") node.now.kind (docs_in node.now.parts.items)) }
+{
+    match node.field(Field::Declaration) {
+        Some(Part::Node(declaration)) => is_lowered(declaration),
+        _ => false,
+    }
+}
+
+/// Whether the node is a namespace or an external module without `declare`.
+fn is_lowered(node: &Node) -> bool
+    ensures { result ≡ is_lowered node.now.kind (docs_in node.now.parts.items) }
+{
+    (node.kind.is(Kind::TSNamespaceDeclaration) || node.kind.is(Kind::TSExternalModuleDeclaration))
+        && !node.flag(Field::Declare)
+}
+
+/// Whether the node is an import or an export that goes, and no `import =` without `export`.
+fn is_export_removed(plan: &Plan, all: bool, node: &Node) -> bool
+    ensures { result ≡ is_export_removed (is_in plan.now.kept) all node.now.kind (docs_in node.now.parts.items) }
 {
     let kind = node.kind;
     if kind.is(Kind::ImportDeclaration) {

@@ -6,16 +6,18 @@ use oxt_grammar::field::Field;
 use oxt_grammar::kind::Kind;
 use oxt_grammar::word::Word;
 use oxt_options::plan::Plan;
+use oxt_options::{Module, TransformOptions};
 use oxt_tree::fields::place_of;
-use oxt_tree::ids::{NodeId, OutOfMemory, Span};
+use oxt_tree::ids::{NodeId, NodeIds, OutOfMemory, Span};
+use oxt_tree::name::Name;
 use oxt_tree::tree::{Node, Part, Program};
 use std::alloc::Global;
 use std::vec;
 
 /// Removes from a program what of its imports and exports stands for nothing at run time: those of types alone, the
-/// specifiers that the plan does not keep, and exports of erased declarations. Where one was removed
-/// and no import or export is left, `export {}` is put last, so that the program stays a module. A file
-/// of definitions loses all its code.
+/// specifiers that the plan does not keep, an `import =` that it does not keep, and exports of erased declarations. Where one
+/// was removed and no import or export is left, `export {}` is put last, so that the program stays a module. A file of
+/// definitions loses all its code. For CommonJS the program becomes strict.
 ///
 /// With `only_remove_type_imports` an import that loses its specifiers stays, for what its module does.
 ///
@@ -25,17 +27,26 @@ use std::vec;
 pub fn retain_modules(
     program: &mut Program,
     plan: &Plan,
-    only_remove_type_imports: bool,
+    options: &TransformOptions,
 ) -> Result<(), OutOfMemory> {
     if program.root.is_definition_file() {
         empty(&mut program.root);
-        return Ok(());
+    } else {
+        retain_body(program, plan, options.typescript.only_remove_type_imports)?;
     }
+    match options.module {
+        Module::CommonJs => make_strict(program),
+        _ => Ok(()),
+    }
+}
+
+/// Does so with the statements of the program, which is no file of definitions.
+fn retain_body(program: &mut Program, plan: &Plan, all: bool) -> Result<(), OutOfMemory> {
     let number = program.ids.fresh()?;
-    let is_due = is_export_due(&program.root, plan, only_remove_type_imports);
+    let is_due = is_export_due(&program.root, plan, all);
     match field_mut(&mut program.root, Field::Body) {
         Some(Part::List(statements)) => {
-            retain_statements(plan, only_remove_type_imports, statements);
+            retain_statements(plan, all, statements);
             if is_due {
                 push_export(number, statements)?;
             }
@@ -43,6 +54,46 @@ pub fn retain_modules(
         }
         _ => Ok(()),
     }
+}
+
+/// Puts the directive `use strict` first, unless one of the directives says so.
+fn make_strict(program: &mut Program) -> Result<(), OutOfMemory> {
+    if is_strict(program.root.list(Field::Directives)) {
+        return Ok(());
+    }
+    let directive = use_strict(*program.root.parts.allocator(), &mut program.ids)?;
+    match field_mut(&mut program.root, Field::Directives) {
+        Some(Part::List(directives)) => {
+            directives.insert(0, directive)?;
+            Ok(())
+        }
+        _ => Ok(()),
+    }
+}
+
+/// Whether one of the directives is `use strict`.
+fn is_strict(directives: &[Part]) -> bool {
+    directives.iter().any(is_use_strict)
+}
+
+/// Whether the part is the directive `use strict`.
+fn is_use_strict(part: &Part) -> bool {
+    match part {
+        Part::Node(node) => node.holds_text(Field::Value, "use strict"),
+        _ => false,
+    }
+}
+
+/// The directive `use strict`.
+fn use_strict(alloc: Global, ids: &mut NodeIds) -> Result<Part, OutOfMemory> {
+    let text = Name::new(alloc, "use strict")?;
+    let parts = vec![in alloc; Part::Text(text)]?;
+    Ok(Part::Node(Node {
+        kind: Kind::Directive,
+        id: ids.fresh()?,
+        span: Span::NONE,
+        parts,
+    }))
 }
 
 /// Puts `export {}` of that number behind the statements.

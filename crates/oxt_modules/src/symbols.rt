@@ -1,14 +1,15 @@
 //! What imports and exports ask of the symbols of a table, answered once for each.
 ghost use Rattle.std.specs.List.{list_any};
 ghost use Rattle.std.specs.Prelude.{◌≡◌, ◌<◌, IfOk, length, option_map, slice_get};
-ghost use Rattle.oxt_modules.specs.Names.{has_other_value, has_value_use, is_value_use, symbol_in};
-ghost use Rattle.oxt_modules.specs.Symbols.{IsAnswered, all_asked, asked, declares_besides, first_value, has_another};
-ghost use Rattle.oxt_scoping.specs.Scoped.{live_at};
+ghost use Rattle.oxt_modules.specs.Names.{has_other_value, has_value_use, symbol_in};
+ghost use Rattle.oxt_modules.specs.Marked.{beside, is_use, is_value};
+ghost use Rattle.oxt_modules.specs.Symbols.{IsAnswered, all_asked, asked, declares_besides, first_value, has_another, table_of};
 
+use crate::nodes::NodeList;
 use bitflags::Flags;
 use oxt_names::flags::ReferenceFlags;
 use oxt_names::ids::{ReferenceId, SymbolId};
-use oxt_scoping::entry::Redeclaration;
+use oxt_scoping::entry::{Redeclaration, Reference};
 use oxt_scoping::scoping::Scoping;
 use oxt_tree::ids::{NodeId, OutOfMemory};
 use std::alloc::Global;
@@ -31,29 +32,39 @@ pub struct SymbolAnswers {
 pub struct Symbols<'a> {
     /// The table.
     pub scoping: &'a Scoping,
+    /// The names that are no value uses.
+    pub marked: NodeList,
     /// The answers, by the numbers of the symbols.
     pub answers: Vec<SymbolAnswers>,
 }
 
 impl<'a> Symbols<'a> {
-    /// What is asked of the symbols of the table.
+    /// What is asked of the symbols of the table, where these names are no value uses.
     ///
     /// # Errors
     ///
     /// Nothing but want of memory.
-    pub fn of(alloc: Global, scoping: &'a Scoping) -> Result<Symbols<'a>, OutOfMemory>
-        ensures table { IfOk result (λ s. s.scoping.now ≡ scoping.now) }
+    pub fn of(
+        alloc: Global,
+        scoping: &'a Scoping,
+        marked: NodeList,
+    ) -> Result<Symbols<'a>, OutOfMemory>
+        ensures table { IfOk result (λ s. table_of s ≡ beside marked scoping.now) }
         ensures answered { IfOk result (λ s. IsAnswered s) }
     {
-        let answers = all_asked(alloc, scoping)?;
-        Ok(Symbols { scoping, answers })
+        let answers = all_asked(alloc, scoping, &marked)?;
+        Ok(Symbols {
+            scoping,
+            marked,
+            answers,
+        })
     }
 
     /// What is asked of the symbol, if there is one.
     #[tactic(auto, using(crate::proofs::Tables::asked_found))]
     pub fn get(&self, symbol: Option<SymbolId>) -> Option<SymbolAnswers>
         requires { IsAnswered self.now }
-        ensures { result ≡ option_map (asked self.now.scoping.now.references) (symbol_in self.now.scoping.now.symbols symbol) }
+        ensures { result ≡ option_map (asked (table_of self.now).references) (symbol_in self.now.scoping.now.symbols symbol) }
     {
         match symbol {
             Some(symbol) => self.answers.get(symbol.0 as usize).copied(),
@@ -74,10 +85,14 @@ impl SymbolAnswers {
     }
 }
 
-/// What is asked of each symbol of the table.
+/// What is asked of each symbol of the table, where these names are no value uses.
 #[tactic(auto, using(crate::proofs::Tables::asked_steps))]
-fn all_asked(alloc: Global, scoping: &Scoping) -> Result<Vec<SymbolAnswers>, OutOfMemory>
-    ensures { IfOk result (λ v. v.items ≡ all_asked scoping.now) }
+fn all_asked(
+    alloc: Global,
+    scoping: &Scoping,
+    marked: &NodeList,
+) -> Result<Vec<SymbolAnswers>, OutOfMemory>
+    ensures { IfOk result (λ v. v.items ≡ all_asked (beside marked.now scoping.now)) }
 {
     let mut out = Vec::new(alloc);
     for i in 0..u64::MAX {
@@ -85,23 +100,23 @@ fn all_asked(alloc: Global, scoping: &Scoping) -> Result<Vec<SymbolAnswers>, Out
         if !scoping.has_symbol(symbol) {
             return Ok(out);
         }
-        out.push(asked(scoping, symbol))?;
+        out.push(asked(scoping, marked, symbol))?;
     }
     Err(OutOfMemory)
 }
 
 /// What is asked of the symbol.
 #[tactic(auto, using(crate::proofs::Tables::asked_is))]
-fn asked(scoping: &Scoping, symbol: SymbolId) -> SymbolAnswers
+fn asked(scoping: &Scoping, marked: &NodeList, symbol: SymbolId) -> SymbolAnswers
     requires { symbol.0 < length scoping.now.symbols }
-    ensures { option_map (asked scoping.now.references) (slice_get scoping.now.symbols symbol.0) ≡ Some result }
+    ensures { option_map (asked (beside marked.now scoping.now).references) (slice_get scoping.now.symbols symbol.0) ≡ Some result }
 {
     let declarations = scoping.symbol_redeclarations(symbol);
     let first_value = first_value(declarations);
     SymbolAnswers {
         first_value,
         has_another: has_another(first_value, declarations),
-        is_used: has_value_use(scoping, scoping.get_resolved_references(symbol)),
+        is_used: has_value_use(scoping, marked, scoping.get_resolved_references(symbol)),
         emits: emits(declarations),
     }
 }
@@ -138,24 +153,31 @@ fn has_other_value(node: NodeId, declarations: &[Redeclaration]) -> bool
 }
 
 /// Whether one of the references is a value use.
-fn has_value_use(scoping: &Scoping, references: &[ReferenceId]) -> bool
-    ensures { result ≡ has_value_use scoping.now.references references.now }
+fn has_value_use(scoping: &Scoping, marked: &NodeList, references: &[ReferenceId]) -> bool
+    ensures { result ≡ has_value_use (beside marked.now scoping.now).references references.now }
 {
     references
         .iter()
-        .any(|reference| is_value_use(scoping, *reference))
+        .any(|reference| is_value_use(scoping, marked, *reference))
 }
 
-/// Whether the reference is there and does not stand in a type.
-fn is_value_use(scoping: &Scoping, reference: ReferenceId) -> bool
-    ensures { result ≡ is_value_use (live_at scoping.now.references reference.0) }
+/// Whether the reference is there, is none of the marked names, and does not stand in a type.
+#[tactic(auto, using(crate::proofs::Marks::value_steps))]
+pub fn is_value_use(scoping: &Scoping, marked: &NodeList, reference: ReferenceId) -> bool
+    ensures { result ≡ is_use scoping.now marked.now reference }
 {
     if scoping.has_reference(reference) {
-        let flags = scoping.get_reference(reference).flags;
-        !flags.intersects(ReferenceFlags::TypeUse)
+        is_value(marked, scoping.get_reference(reference))
     } else {
         false
     }
+}
+
+/// Whether the reference is none of the marked names, and does not stand in a type.
+fn is_value(marked: &NodeList, reference: &Reference) -> bool
+    ensures { result ≡ is_value marked.now reference.now }
+{
+    !reference.flags.intersects(ReferenceFlags::TypeUse) && !marked.has(reference.node)
 }
 
 /// Whether one of the declarations emits code.

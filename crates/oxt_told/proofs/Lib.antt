@@ -1,3 +1,4 @@
 pub mod Found
 pub mod Grouped
 pub mod Loops
+pub mod Nested

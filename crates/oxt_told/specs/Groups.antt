@@ -14,7 +14,7 @@ use Rattle.oxt_search.specs.declared.search.Inside.TheVariants as inside
 use Rattle.oxt_grammar.specs.Places.{same_kind}
 use Rattle.oxt_grammar.specs.declared.kind.Kind.{Kind}
 use Rattle.oxt_grammar.specs.declared.kind.Kind.TheVariants as kind
-use Rattle.oxt_told.specs.Source.{first_node}
+use Rattle.oxt_told.specs.Symbols.{group_of}
 use Rattle.oxt_tree.specs.Doc.{Doc}
 
 -- the symbol that a reference means
@@ -30,11 +30,6 @@ meant_by_number s (Some r) = meant_by (live_at s.references r.0)
 -- the symbol that the node of that number means, if it is a name that is used
 abbrev pub symbol_meant : Scoped → ℕ → Option SymbolData
 symbol_meant s i = symbol_in s.symbols (meant_by_number s (still s.references (at_node (record { 0 = i }) s.named)))
-
--- the number of the first node that declares the symbol, by which its group goes
-abbrev pub group_of : Option SymbolData → Option ℕ
-group_of None = None
-group_of (Some y) = first_node y.declarations
 
 -- the group that a node declares or means, by its kind
 abbrev pub own_group : Scoped → Kind → ℕ → Option ℕ

@@ -1,5 +1,9 @@
+pub mod Extensions
 pub mod Groups
 pub mod Modules
+pub mod Namespaces
 pub mod Source
+pub mod Strict
+pub mod Symbols
 pub mod Syntax
 pub mod Whole

@@ -22,7 +22,7 @@ list_told ks i ss = (if loses_all ks ss then (i, listless) ∷ [] else []) ++ sp
 -- a statement of that number
 abbrev pub statement_told_by : (ℕ → Bool) → Bool → Kind → ℕ → Docs → Tellings
 statement_told_by ks all k i ds =
-    if is_removed_by ks all k ds then (i, gone) ∷ []
+    if is_removed_by ks all k i ds then (i, gone) ∷ []
     else if is_listing k then list_told ks i (elements (named (codes "specifiers") k ds))
     else []
 

@@ -1,10 +1,11 @@
--- What is told of the enums of a source, and of the expressions that are inlined, by its table of scopes and symbols and
--- by its plan.
+-- What is told of the enums of a source, of the expressions that are inlined, of what its `import =` and the specifiers of
+-- its modules become, by its table of scopes and symbols, by its plan, and by how extensions are rewritten.
 use Rattle.std.specs.Prelude.{ℕ, ◌==◌, List, [], ◌∷◌, ◌++◌, Bool, true, false, not, ◌&&◌, if◌then◌else◌, nat_eq, Option, None, Some, codes}
 use Rattle.indexmap.specs.IndexMap.{insert_entry}
 use Rattle.oxt_facts.specs.Told.{Tellings, Value, block, member, bare, inlined, gone, constant, following, written}
 use Rattle.oxt_modules.specs.Names.{declared_symbol}
 use Rattle.oxt_options.specs.Facts.{Facts, constant_at, is_in}
+use Rattle.oxt_options.specs.declared.rewrite.RewriteExtensionsMode.{RewriteExtensionsMode}
 use Rattle.oxt_scoping.specs.Entries.{SymbolData}
 use Rattle.oxt_scoping.specs.Scoped.{Scoped, live_at}
 use Rattle.oxt_scoping.specs.declared.entry.Redeclaration.{Redeclaration}
@@ -14,6 +15,11 @@ use Rattle.oxt_names.specs.declared.ids.ReferenceId.{ReferenceId}
 use Rattle.oxt_grammar.specs.Places.{same_kind}
 use Rattle.oxt_grammar.specs.declared.kind.Kind.{Kind}
 use Rattle.oxt_grammar.specs.declared.kind.Kind.TheVariants as kind
+use Rattle.oxt_told.specs.Extensions.{extension_told, has_source}
+use Rattle.oxt_told.specs.Namespaces.{seat_told, seat_inside}
+use Rattle.oxt_told.specs.Symbols.{first_node, named_symbol}
+use Rattle.oxt_told.specs.declared.seat.Seat.{Seat}
+use Rattle.oxt_told.specs.declared.seat.Seat.TheVariants as seat
 use Rattle.oxt_told.specs.Syntax.{is_pure, is_text_form}
 use Rattle.oxt_tree.specs.Doc.{Doc, nil, flag, number, text, list, node, Docs, no_docs, doc}
 use Rattle.oxt_told.specs.declared.members.EnumAround.{EnumAround}
@@ -52,11 +58,6 @@ pub record Around : Type 0 where
 
 abbrev pub around_view : EnumAround → Around
 around_view a = record { name = name_bytes a.name.now; group = a.group; block = a.block }
-
--- the number of the first node that declares a name
-abbrev pub first_node : List Redeclaration → Option ℕ
-first_node [] = None
-first_node (d ∷ ds) = Some d.node.0
 
 -- the enum of that symbol around the block of that number
 abbrev pub around : SymbolData → ℕ → Around
@@ -127,16 +128,6 @@ abbrev pub asked_of : Facts → Asked
 asked_of p =
     record { kept = is_in p.kept; first = is_in p.first; dropped = is_in p.dropped; inlined = constant_at p.inlined }
 
--- the number of a node
-abbrev pub number_in : Doc → Option ℕ
-number_in (node k i b e ds) = Some i
-number_in d = None
-
--- the symbol that a node declares, if it is one
-abbrev pub symbol_in : Scoped → Option ℕ → Option SymbolData
-symbol_in s None = None
-symbol_in s (Some i) = declared_symbol s i
-
 -- a block of that number with these members, whose enum's symbol that is
 abbrev pub block_told : Scoped → Asked → ℕ → Docs → Option SymbolData → Tellings
 block_told s p i ms None = []
@@ -153,49 +144,53 @@ ambient_told s i ms (Some y) = members_bares s (around y i) ms
 abbrev pub members_in : Kind → Docs → Docs
 members_in k ds = elements (field_of (codes "members") (named (codes "body") k ds))
 
--- the symbol of a block's enum
-abbrev pub enum_symbol : Scoped → Kind → Docs → Option SymbolData
-enum_symbol s k ds = symbol_in s (number_in (named (codes "id") k ds))
-
 -- a block of an enum: one that is ambient, one that is dropped, and one that becomes a function
 abbrev pub enum_told : Scoped → Asked → Kind → ℕ → Docs → Tellings
 enum_told s p k i ds =
-    if is_dropped_by k ds then ambient_told s i (members_in k ds) (enum_symbol s k ds)
+    if is_dropped_by k ds then ambient_told s i (members_in k ds) (named_symbol s k ds)
     else if p.dropped i then (i, gone) ∷ []
-    else block_told s p i (members_in k ds) (enum_symbol s k ds)
+    else block_told s p i (members_in k ds) (named_symbol s k ds)
 
 -- an expression with that constant
 abbrev pub inlined_told : ℕ → Option Constant → Tellings
 inlined_told i None = []
 inlined_told i (Some v) = (i, inlined v) ∷ []
 
--- the kinds of expressions that may be inlined: members, and the chains that hold them
+-- the kinds of what may be inlined: members, the chains that hold them, and `a.b` in an `import =`
 abbrev pub may_be_inlined : Kind → Bool
 may_be_inlined kind.StaticMemberExpression = true
 may_be_inlined kind.ComputedMemberExpression = true
 may_be_inlined kind.ChainExpression = true
+may_be_inlined kind.TSQualifiedName = true
 may_be_inlined k = false
 
--- a node: an expression that is inlined, or a block of an enum
-abbrev pub own_told : Scoped → Asked → Kind → ℕ → Docs → Tellings
-own_told s p k i ds =
+-- what the plan does not keep, of that number
+abbrev pub unkept_told : (ℕ → Bool) → ℕ → Tellings
+unkept_told ks i = if ks i then [] else (i, gone) ∷ []
+
+-- a node that stands there: an expression that is inlined, a block of an enum, an `import =`, one that has a module's
+-- specifier, or what namespaces become
+abbrev pub own_told : Scoped → Asked → Option RewriteExtensionsMode → Seat → Kind → ℕ → Docs → Tellings
+own_told s p m q k i ds =
     if may_be_inlined k then inlined_told i (p.inlined i)
     else if same_kind k kind.TSEnumDeclaration then enum_told s p k i ds
-    else []
+    else if same_kind k kind.TSImportEqualsDeclaration then unkept_told p.kept i
+    else if has_source k then extension_told m (named (codes "source") k ds)
+    else seat_told s p.first q k i ds
 
--- the blocks and the inlined expressions in a document
+-- all these in a document that stands there
 abbrev mutual
-  pub told_in : Scoped → Asked → Doc → Tellings
-  told_in s p nil = []
-  told_in s p (flag b) = []
-  told_in s p (number n) = []
-  told_in s p (text t) = []
-  told_in s p (list ds) = told_in_each s p ds
-  told_in s p (node k i b e ds) = own_told s p k i ds ++ told_in_each s p ds
+  pub told_in : Scoped → Asked → Option RewriteExtensionsMode → Seat → Doc → Tellings
+  told_in s p m q nil = []
+  told_in s p m q (flag b) = []
+  told_in s p m q (number n) = []
+  told_in s p m q (text t) = []
+  told_in s p m q (list ds) = told_in_each s p m q ds
+  told_in s p m q (node k i b e ds) = own_told s p m q k i ds ++ told_in_each s p m (seat_inside q k i) ds
 
-  pub told_in_each : Scoped → Asked → Docs → Tellings
-  told_in_each s p no_docs = []
-  told_in_each s p (doc d ds) = told_in s p d ++ told_in_each s p ds
+  pub told_in_each : Scoped → Asked → Option RewriteExtensionsMode → Seat → Docs → Tellings
+  told_in_each s p m q no_docs = []
+  told_in_each s p m q (doc d ds) = told_in s p m q d ++ told_in_each s p m q ds
 
 -- these tellings over those
 abbrev pub all_told : Tellings → Tellings → Tellings

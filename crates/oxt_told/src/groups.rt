@@ -1,10 +1,11 @@
 //! The groups that the names of a tree mean and declare.
 ghost use Rattle.std.specs.Prelude.{◌≡◌, IfOk, OnOk, option_map, ℕ};
 ghost use Rattle.oxt_modules.specs.Names.{declared_symbol, symbol_in};
-ghost use Rattle.oxt_told.specs.Groups.{all_put, group_of, groups_of, meant_by_number, own_group, symbol_meant};
+ghost use Rattle.oxt_told.specs.Groups.{all_put, groups_of, meant_by_number, own_group, symbol_meant};
+ghost use Rattle.oxt_told.specs.Symbols.{group_of};
 ghost use Rattle.oxt_tree.specs.View.{node_doc};
 
-use crate::told::group_of;
+use crate::symbols::{declared_group, group_of};
 use oxt_facts::owners::NameGroups;
 use oxt_grammar::holds::Row;
 use oxt_grammar::kind::Kind;
@@ -99,17 +100,6 @@ fn own_group(scoping: &Scoping, kind: Kind, node: NodeId) -> Option<u64>
         meant_group(scoping, node)
     } else {
         None
-    }
-}
-
-/// The group that the node declares.
-#[tactic(auto, using(crate::proofs::Grouped::group_found, crate::proofs::Grouped::no_group))]
-fn declared_group(scoping: &Scoping, node: NodeId) -> Option<u64>
-    ensures { result ≡ group_of (declared_symbol scoping.now node.0) }
-{
-    match scoping.symbol_of(node) {
-        Some(symbol) => group_of(scoping, symbol),
-        None => None,
     }
 }
 

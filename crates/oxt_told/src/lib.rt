@@ -1,10 +1,16 @@
 //! What the reading of a tree is told of it: of a source, the imports, exports and specifiers that go, the blocks of its
-//! enums, their members, the bare names that mean members and the expressions that are inlined; and of any tree the groups
-//! of its names.
+//! enums, their members, the bare names that mean members, the expressions that are inlined, the specifiers of modules that
+//! are rewritten, the blocks of namespaces and what they export, and whether it is made strict; and of any tree the groups of
+//! its names.
 #![tactic(auto)]
 
+mod extensions;
 pub mod groups;
 mod members;
 mod modules;
+mod namespaces;
+mod seat;
+mod strict;
+mod symbols;
 mod syntax;
 pub mod told;

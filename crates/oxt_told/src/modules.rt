@@ -1,9 +1,8 @@
 //! What is told of the imports and exports of a source.
-ghost use Rattle.std.specs.Prelude.{◌≡◌, ◌∷◌, [], OnOk, if◌then◌else◌};
-ghost use Rattle.oxt_facts.specs.Told.{gone};
+ghost use Rattle.std.specs.Prelude.{◌≡◌, OnOk};
 ghost use Rattle.oxt_options.specs.Facts.{is_in};
 ghost use Rattle.oxt_told.specs.Modules.{list_told, specifier_told, modules_told, specifiers_told, statement_told, statements_told};
-ghost use Rattle.oxt_told.specs.Source.{all_told};
+ghost use Rattle.oxt_told.specs.Source.{all_told, unkept_told};
 ghost use Rattle.oxt_tree.specs.Fields.{elements, named};
 ghost use Rattle.oxt_tree.specs.View.{docs_in, node_doc, part_doc};
 
@@ -119,13 +118,12 @@ fn tell_specifier(plan: &Plan, specifier: &Part, told: &mut ToldNodes) -> Result
     }
 }
 
-/// Tells that the specifier of that number does nothing, if it is not kept.
-fn tell_unkept(plan: &Plan, specifier: NodeId, told: &mut ToldNodes) -> Result<(), OutOfMemory>
-    ensures { OnOk result (told.new
-        ≡ all_told told.old (if is_in plan.now.kept specifier.0 then [] else (specifier.0, gone) ∷ [])) }
+/// Tells that the node of that number, a specifier or an `import =`, does nothing, if it is not kept.
+pub fn tell_unkept(plan: &Plan, node: NodeId, told: &mut ToldNodes) -> Result<(), OutOfMemory>
+    ensures { OnOk result (told.new ≡ all_told told.old (unkept_told (is_in plan.now.kept) node.0)) }
 {
-    if plan.keeps(specifier) {
+    if plan.keeps(node) {
         return Ok(());
     }
-    told.tell(specifier, Told::Gone)
+    told.tell(node, Told::Gone)
 }

@@ -1,33 +1,41 @@
 //! What is told of a source.
-ghost use Rattle.std.specs.Prelude.{◌≡◌, ◌<◌, ◌++◌, IfOk, IfSome, OnOk, Some, length, nat_eq, option_map, slice_get};
+ghost use Rattle.std.specs.Prelude.{◌≡◌, ◌++◌, IfOk, OnOk, nat_eq};
 ghost use Rattle.indexmap.specs.IndexMap.{insert_entry};
 ghost use Rattle.oxt_facts.specs.Told.{block};
-ghost use Rattle.oxt_modules.specs.Names.{symbol_in as symbol_by};
 ghost use Rattle.oxt_options.specs.Facts.{constant_at, is_in};
+ghost use Rattle.oxt_options.specs.Options.{transform_view};
 ghost use Rattle.oxt_told.specs.Modules.{modules_told};
-ghost use Rattle.oxt_told.specs.Source.{all_told, ambient_told, around, around_view, asked_of, block_told, enum_symbol, enum_told, first_node, inlined_told, may_be_inlined, members_in, own_told, told_in, told_in_each};
+ghost use Rattle.oxt_told.specs.Source.{all_told, ambient_told, asked_of, block_told, enum_told, inlined_told, may_be_inlined, members_in, own_told, told_in, told_in_each};
+ghost use Rattle.oxt_told.specs.Strict.{strict_told};
+ghost use Rattle.oxt_told.specs.Symbols.{named_symbol};
 ghost use Rattle.oxt_told.specs.Whole.{told_of_source};
 ghost use Rattle.oxt_tree.specs.Names.{name_bytes};
 ghost use Rattle.oxt_tree.specs.View.{docs_in, node_doc, part_doc};
 
+use crate::extensions::{has_source, tell_extension};
 use crate::members::{EnumAround, tell_members, tell_members_bares};
-use crate::modules::tell_modules;
+use crate::modules::{tell_modules, tell_unkept};
+use crate::namespaces::tell_seat;
+use crate::seat::Seat;
+use crate::strict::tell_strict;
+use crate::symbols::{around, named_symbol};
 use crate::syntax::is_pure;
 use oxt_facts::told::{Told, ToldBlock, ToldNodes};
 use oxt_grammar::field::Field;
 use oxt_grammar::kind::Kind;
-use oxt_names::ids::SymbolId;
+use oxt_options::options::TransformOptions;
 use oxt_options::plan::Plan;
-use oxt_scoping::entry::Redeclaration;
+use oxt_options::rewrite::RewriteExtensionsMode;
 use oxt_scoping::scoping::Scoping;
 use oxt_tree::ids::{NodeId, OutOfMemory};
 use oxt_tree::tree::{Node, Part};
 use oxt_unbuilt::dropped::is_dropped;
 use std::alloc::Global;
 
-/// What is told of the program, whose table of scopes and symbols is `scoping`: of its imports and exports, of the blocks of
-/// its enums, of their members and the bare names that mean these, and of the expressions that are inlined, all as the plan
-/// says. With `only_remove_type_imports` an import stays that loses its whole list.
+/// What is told under the options of the program, whose table of scopes and symbols is `scoping`: of its imports and exports,
+/// of the blocks of its enums, of their members and the bare names that mean these, of the expressions that are inlined, of
+/// its `import =`, as the plan says; of the specifiers of its modules, and of the program itself. With
+/// `only_remove_type_imports` an import stays that loses its whole list.
 ///
 /// # Errors
 ///
@@ -37,107 +45,134 @@ pub fn told_of_source(
     program: &Node,
     scoping: &Scoping,
     plan: &Plan,
-    only_remove_type_imports: bool,
+    options: &TransformOptions,
 ) -> Result<ToldNodes, OutOfMemory>
     ensures { IfOk result (λ told. told
-        ≡ told_of_source scoping.now (asked_of plan.now) only_remove_type_imports (node_doc program.now)) }
+        ≡ told_of_source scoping.now (asked_of plan.now) (transform_view options.now) (node_doc program.now)) }
 {
+    let source = Source {
+        alloc,
+        scoping,
+        plan,
+        mode: options.typescript.rewrite_import_extensions,
+    };
     let mut told = ToldNodes::new(alloc);
-    match tell_all(scoping, plan, only_remove_type_imports, program, &mut told) {
+    match tell_all(&source, options, program, &mut told) {
         Ok(()) => Ok(told),
         Err(fault) => Err(fault),
     }
 }
 
+/// What is known of a source.
+#[derive(Clone, Copy)]
+pub struct Source<'a> {
+    /// Where memory comes from.
+    pub alloc: Global,
+    /// Its table of scopes and symbols.
+    pub scoping: &'a Scoping,
+    /// Its plan.
+    pub plan: &'a Plan,
+    /// How extensions are rewritten.
+    pub mode: Option<RewriteExtensionsMode>,
+}
+
 /// Tells all of the program.
-#[tactic(auto, using(crate::proofs::Loops::told_both))]
+#[tactic(auto, using(crate::proofs::Loops::told_three))]
 fn tell_all(
-    scoping: &Scoping,
-    plan: &Plan,
-    all: bool,
+    source: &Source,
+    options: &TransformOptions,
     program: &Node,
     told: &mut ToldNodes,
 ) -> Result<(), OutOfMemory>
     ensures { OnOk result (told.new ≡ all_told told.old
-        (modules_told (is_in plan.now.kept) all (node_doc program.now)
-        ++ told_in scoping.now (asked_of plan.now) (node_doc program.now))) }
+        (modules_told (is_in source.now.plan.now.kept) options.now.typescript.only_remove_type_imports (node_doc program.now)
+        ++ (told_in source.now.scoping.now (asked_of source.now.plan.now) source.now.mode Seat.Elsewhere (node_doc program.now)
+        ++ strict_told options.now.«module» (node_doc program.now)))) }
 {
-    tell_modules(plan, all, program, told)?;
-    tell_in_node(scoping, plan, program, told)
+    let all = options.typescript.only_remove_type_imports;
+    tell_modules(source.plan, all, program, told)?;
+    tell_in_node(source, Seat::Elsewhere, program, told)?;
+    tell_strict(options.module, program, told)
 }
 
-/// Tells of the blocks in the part.
+/// Tells of what stands in the part, which stands there.
 #[cycle(tell)]
 fn tell_in_part(
-    scoping: &Scoping,
-    plan: &Plan,
+    source: &Source,
+    seat: Seat,
     part: &Part,
     told: &mut ToldNodes,
 ) -> Result<(), OutOfMemory>
-    ensures { OnOk result (told.new
-        ≡ all_told told.old (told_in scoping.now (asked_of plan.now) (part_doc part.now))) }
+    ensures { OnOk result (told.new ≡ all_told told.old
+        (told_in source.now.scoping.now (asked_of source.now.plan.now) source.now.mode seat (part_doc part.now))) }
 {
     match part {
-        Part::Node(node) => tell_in_node(scoping, plan, node, told),
-        Part::List(parts) => tell_in_each(scoping, plan, parts, told),
+        Part::Node(node) => tell_in_node(source, seat, node, told),
+        Part::List(parts) => tell_in_each(source, seat, parts, told),
         _ => Ok(()),
     }
 }
 
-/// Tells of the blocks in the node, which may be one.
+/// Tells of the node, which stands there, and of what stands in it.
 #[cycle(tell)]
 #[tactic(auto, using(crate::proofs::Loops::told_both))]
 fn tell_in_node(
-    scoping: &Scoping,
-    plan: &Plan,
-    node: &Node,
-    told: &mut ToldNodes,
-) -> Result<(), OutOfMemory>
-    ensures { OnOk result (told.new
-        ≡ all_told told.old (told_in scoping.now (asked_of plan.now) (node_doc node.now))) }
-{
-    tell_own(scoping, plan, node, told)?;
-    tell_in_each(scoping, plan, &node.parts, told)
-}
-
-/// Tells of the blocks in each of the parts.
-#[cycle(tell)]
-#[tactic(auto, using(crate::proofs::Loops::each_steps))]
-fn tell_in_each(
-    scoping: &Scoping,
-    plan: &Plan,
-    parts: &[Part],
-    told: &mut ToldNodes,
-) -> Result<(), OutOfMemory>
-    ensures { OnOk result (told.new
-        ≡ all_told told.old (told_in_each scoping.now (asked_of plan.now) (docs_in parts.now))) }
-{
-    for part in parts {
-        tell_in_part(scoping, plan, part, told)?;
-    }
-    Ok(())
-}
-
-/// Tells of the node, if it is an expression that is inlined or a block of an enum.
-fn tell_own(
-    scoping: &Scoping,
-    plan: &Plan,
+    source: &Source,
+    seat: Seat,
     node: &Node,
     told: &mut ToldNodes,
 ) -> Result<(), OutOfMemory>
     ensures { OnOk result (told.new ≡ all_told told.old
-        (own_told scoping.now (asked_of plan.now) node.now.kind node.now.id.0 (docs_in node.now.parts.items))) }
+        (told_in source.now.scoping.now (asked_of source.now.plan.now) source.now.mode seat (node_doc node.now))) }
+{
+    tell_own(source, seat, node, told)?;
+    tell_in_each(source, seat.inside(node.kind, node.id.0), &node.parts, told)
+}
+
+/// Tells of what stands in each of the parts, which stand there.
+#[cycle(tell)]
+#[tactic(auto, using(crate::proofs::Loops::each_steps))]
+fn tell_in_each(
+    source: &Source,
+    seat: Seat,
+    parts: &[Part],
+    told: &mut ToldNodes,
+) -> Result<(), OutOfMemory>
+    ensures { OnOk result (told.new ≡ all_told told.old
+        (told_in_each source.now.scoping.now (asked_of source.now.plan.now) source.now.mode seat (docs_in parts.now))) }
+{
+    for part in parts {
+        tell_in_part(source, seat, part, told)?;
+    }
+    Ok(())
+}
+
+/// Tells of the node, which stands there, if it is an expression that is inlined, a block of an enum, an `import =`, or has the
+/// specifier of a module, and of what namespaces become.
+fn tell_own(
+    source: &Source,
+    seat: Seat,
+    node: &Node,
+    told: &mut ToldNodes,
+) -> Result<(), OutOfMemory>
+    ensures { OnOk result (told.new ≡ all_told told.old
+        (own_told source.now.scoping.now (asked_of source.now.plan.now) source.now.mode seat node.now.kind node.now.id.0
+        (docs_in node.now.parts.items))) }
 {
     if may_be_inlined(node.kind) {
-        tell_inlined(plan, node.id, told)
+        tell_inlined(source.plan, node.id, told)
     } else if node.kind.is(Kind::TSEnumDeclaration) {
-        tell_enum(scoping, plan, node, told)
+        tell_enum(source.scoping, source.plan, node, told)
+    } else if node.kind.is(Kind::TSImportEqualsDeclaration) {
+        tell_unkept(source.plan, node.id, told)
+    } else if has_source(node.kind) {
+        tell_extension(source.alloc, source.mode, node.field(Field::Source), told)
     } else {
-        Ok(())
+        tell_seat(source, seat, node, told)
     }
 }
 
-/// Whether nodes of the kind may be inlined: members, and the chains that hold them.
+/// Whether nodes of the kind may be inlined: members, the chains that hold them, and `a.b` in an `import =`.
 fn may_be_inlined(kind: Kind) -> bool
     ensures { result ≡ may_be_inlined kind }
 {
@@ -145,6 +180,7 @@ fn may_be_inlined(kind: Kind) -> bool
         Kind::StaticMemberExpression => true,
         Kind::ComputedMemberExpression => true,
         Kind::ChainExpression => true,
+        Kind::TSQualifiedName => true,
         _ => false,
     }
 }
@@ -184,9 +220,9 @@ fn tell_enum(
 fn tell_ambient(scoping: &Scoping, node: &Node, told: &mut ToldNodes) -> Result<(), OutOfMemory>
     ensures { OnOk result (told.new ≡ all_told told.old (ambient_told scoping.now node.now.id.0
         (members_in node.now.kind (docs_in node.now.parts.items))
-        (enum_symbol scoping.now node.now.kind (docs_in node.now.parts.items)))) }
+        (named_symbol scoping.now node.now.kind (docs_in node.now.parts.items)))) }
 {
-    match enum_symbol(scoping, node) {
+    match named_symbol(scoping, node) {
         Some(symbol) => {
             let around = around(scoping, symbol, node.id);
             tell_members_bares(scoping, &around, members_of(node), told)
@@ -205,9 +241,9 @@ fn tell_block(
 ) -> Result<(), OutOfMemory>
     ensures { OnOk result (told.new ≡ all_told told.old (block_told scoping.now (asked_of plan.now) node.now.id.0
         (members_in node.now.kind (docs_in node.now.parts.items))
-        (enum_symbol scoping.now node.now.kind (docs_in node.now.parts.items)))) }
+        (named_symbol scoping.now node.now.kind (docs_in node.now.parts.items)))) }
 {
-    match enum_symbol(scoping, node) {
+    match named_symbol(scoping, node) {
         Some(symbol) => {
             let around = around(scoping, symbol, node.id);
             let is_top = scoping.symbol_scope_id(symbol).0 == 0;
@@ -248,49 +284,6 @@ fn tell_function(
             }),
         ),
         Err(fault) => Err(fault),
-    }
-}
-
-/// The symbol of the block's enum.
-fn enum_symbol(scoping: &Scoping, node: &Node) -> Option<SymbolId>
-    ensures live { IfSome result (λ symbol. symbol.0 < length scoping.now.symbols) }
-    ensures symbol { symbol_by scoping.now.symbols result
-        ≡ enum_symbol scoping.now node.now.kind (docs_in node.now.parts.items) }
-{
-    match node.field(Field::Id) {
-        Some(Part::Node(id)) => scoping.symbol_of(id.id),
-        _ => None,
-    }
-}
-
-/// The enum of that symbol around its block of that number.
-fn around(scoping: &Scoping, symbol: SymbolId, block: NodeId) -> EnumAround<'_>
-    requires { symbol.0 < length scoping.now.symbols }
-    ensures { option_map (λ y. around y block.0) (slice_get scoping.now.symbols symbol.0)
-        ≡ Some (around_view result) }
-{
-    EnumAround {
-        name: scoping.symbol_name(symbol),
-        group: group_of(scoping, symbol),
-        block: block.0,
-    }
-}
-
-/// The number of the first node that declares the symbol, by which its group goes.
-pub(crate) fn group_of(scoping: &Scoping, symbol: SymbolId) -> Option<u64>
-    requires { symbol.0 < length scoping.now.symbols }
-    ensures { option_map (λ y. first_node y.declarations) (slice_get scoping.now.symbols symbol.0) ≡ Some result }
-{
-    first_node(scoping.symbol_redeclarations(symbol))
-}
-
-/// The number of the first of the nodes that declare a name.
-fn first_node(declarations: &[Redeclaration]) -> Option<u64>
-    ensures { result ≡ first_node declarations.now }
-{
-    match declarations.first() {
-        Some(declaration) => Some(declaration.node.0),
-        None => None,
     }
 }
 

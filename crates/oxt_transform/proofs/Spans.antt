@@ -2,7 +2,7 @@
 use Rattle.std.proofs.Common.{arith, ◌≡◌, ◌∙◌, refl, sym, ap, ap₂, subst, ℕ, suc, ◌+◌, ◌-◌, ◌<◌, ◌≤◌, List, [], ◌∷◌, ◌++◌, length, drop, get_or, slice_get, append_assoc, append-nil, Bool, true, false, not, ◌&&◌, ◌||◌, Option, None, Some}
 use Rattle.std.proofs.lemmas.Bool.Decides.{Decides-eqb}
 use Rattle.std.specs.Prelude.{⊤, nat_eq}
-use Rattle.oxt_transform.specs.Exports.{HasExports, body, empty_exports, ends_in_export, export_span, exports_left, is_empty_export, last_is_export, same_span, same_spans}
+use Rattle.oxt_transform.specs.Exports.{HasExports, body, empty_exports, ends_in_export, export_span, is_empty_export, last_is_export, same_span, same_spans}
 use Rattle.oxt_transform.specs.Settings.{SettingsData, has_exports, settings_by}
 use Rattle.oxt_tree.proofs.Lists.{drop_at, drop_end}
 use Rattle.oxt_tree.specs.Doc.{Doc}
@@ -104,9 +104,9 @@ implied true b h e = h
 implied false b h e = cc
 
 -- What the test of the settings says of these statements.
-pub exports_stand : (ks : ℕ → Bool) (all : Bool) (source output : Doc) → has_exports (settings_by ks all source) (body output) ≡ true → HasExports ks all source output
-exports_stand ks all source output h =
-    let x : SettingsData = settings_by ks all source in
+pub exports_stand : (is_due : Bool) (source output : Doc) → has_exports (settings_by is_due source) (body output) ≡ true → HasExports is_due source output
+exports_stand is_due source output h =
+    let x : SettingsData = settings_by is_due source in
     let parts = both (same_spans (empty_exports (body output)) x.exports) (not x.export_due || ends_in_export (body output)) h in
     record {
       same = spans_same (empty_exports (body output)) x.exports parts.0;

@@ -1,6 +1,6 @@
 -- What each step of the work says of the bytes.
-use Rattle.std.proofs.Common.{◌≡◌, ◌≤◌, ◌⊎◌, inl, ℕ, List, [], ◌∷◌, length, Bool, true, false, Option, None, Some, refl, ap, ◌∙◌, sym, subst}
-use Rattle.std.specs.Prelude.{if◌then◌else◌, not, ◌&&◌, option_map, replicate}
+use Rattle.std.proofs.Common.{◌≡◌, ◌≤◌, ◌⊎◌, inl, ℕ, List, length, Bool, true, false, Option, None, Some, refl, ap, ◌∙◌, sym, subst}
+use Rattle.std.specs.Prelude.{if◌then◌else◌, not, ◌&&◌, option_map}
 use Rattle.std.proofs.Math.Path.{fun_ext}
 use Rattle.std.specs.Option.{option_or}
 use Rattle.oxt_faults.specs.Captured.{Capture}
@@ -8,7 +8,7 @@ use Rattle.oxt_check.specs.Captures.{first_capture}
 use Rattle.oxt_check.specs.Misplacements.{first_misplacement}
 use Rattle.oxt_enum_checks.specs.Wide.{wide}
 use Rattle.oxt_enum_checks.specs.declared.wide.WideMember.{WideMember}
-use Rattle.oxt_check.specs.Diagnostics.{diagnostics, wrapper_stays}
+use Rattle.oxt_check.specs.Diagnostics.{diagnostics}
 use Rattle.oxt_check.specs.Faults.{IsFaultOf, captured_refusal, facts_of, misplaced_refusal, wide_refusal}
 use Rattle.oxt_tree.specs.declared.diagnostic.OxcDiagnostic.{OxcDiagnostic}
 use Rattle.oxt_io.specs.Counts.{Rose}
@@ -19,7 +19,8 @@ use Rattle.oxt_laws.specs.Laws.{TextTellsTrees}
 use Rattle.oxt_faults.specs.Misplaced.{Misplacement}
 use Rattle.oxt_tree.specs.Syntax.{is_definition_file}
 use Rattle.oxt_options.specs.Options.{TransformData}
-use Rattle.oxt_options.specs.Facts.{Answers, Facts}
+use Rattle.oxt_modules.specs.Kept.{kept}
+use Rattle.oxt_options.specs.Facts.{Answers, Facts, is_in}
 use Rattle.oxt_told.specs.Source.{Asked, asked_of}
 use Rattle.oxt_resolve.specs.Resolved.{resolved}
 use Rattle.oxt_scoping.specs.Scoped.{Scoped}
@@ -28,21 +29,22 @@ use Rattle.oxt_grammar.specs.declared.holds.Holds.TheVariants as holds
 use Rattle.oxt_check.proofs.Kept.{plain_beside_nothing}
 use Rattle.oxt_check.specs.Targets.{is_listed, targets}
 use Rattle.oxt_transform.proofs.Spans.{exports_stand}
-use Rattle.oxt_transform.specs.Expected.{ExpectedData, asked_by, expected_by, expected_of, fault_of, keeps, listed_in}
-use Rattle.oxt_transform.specs.Exports.{HasExports, body}
+use Rattle.oxt_transform.proofs.Told.{no_targets}
+use Rattle.oxt_transform.specs.Expected.{ExpectedData, asked_by, expected_by, expected_of, fault_of, is_due, keeps, listed_in}
+use Rattle.oxt_transform.specs.Exports.{body}
 use Rattle.oxt_transform.specs.Faults.{refusal_in, IsReasonFor}
-use Rattle.oxt_transform.specs.Lowering.{IsTextOfOne, Lowers, Passes, ReturnsPlain}
+use Rattle.oxt_transform.specs.Lowering.{IsTextOfOne, Lowers, Passes, ReturnsPlain, tells_of_wrapper}
 use Rattle.oxt_transform.specs.Outcomes.{AnswerCut, CutOff, IfRefused, IsAnswerUncertifiedOrMemory, IsRefusedMemoryOrWriteFault, LowersToLines, NothingStands, OnWriteFault, Reported, is_uncertified, limit, options_in}
-use Rattle.oxt_transform.specs.Plain.{ComesBack, as_javascript, is_left_alone, is_plain_source, leaves_javascript}
+use Rattle.oxt_transform.specs.Plain.{ComesBack, as_javascript, is_left_alone, is_plain_source}
 use Rattle.oxt_transform.specs.Refusals.{Accepts, Difference, Hinders, IsHindrance, IsFailure, Judges, Refusal, Refuses, captured_name, is_plain_output, json, misplaced_node, shape, unbuilt_form, uncertified, wide_member}
-use Rattle.oxt_transform.specs.Settings.{SettingsData, differs, has_exports, has_language, is_script, settings_by, wrong_setting}
+use Rattle.oxt_transform.specs.Settings.{SettingsData, differs, has_exports, has_language, is_script, wrong_setting}
 use Rattle.oxt_transform.specs.declared.program.Outcome.{Outcome}
 use Rattle.oxt_transform.specs.declared.program.Outcome.TheVariants.{Done, Diagnosed, Refused, Usage, ReadFault, WriteFault, Memory, TooLong}
 use Rattle.oxt_tree.specs.Doc.{Doc}
 use Rattle.oxt_tree.specs.declared.name.Name.{Name}
 use Rattle.oxt_unbuilt.specs.Unbuilt.{unbuilt}
 use Rattle.oxt_valid.specs.Plain.{is_plain}
-use Rattle.oxt_valid.specs.Valid.{IsValid, is_tree}
+use Rattle.oxt_valid.specs.Valid.{is_tree}
 use Rattle.serde_json.specs.Written.{IsInOrder}
 
 same_source : (bytes : List ℕ) (a b : Doc) (m n : ℕ) → reading bytes ≡ tree a m → reading bytes ≡ tree b n → a ≡ b
@@ -57,24 +59,27 @@ wrongly_read bytes place a m p q = let e : tree a m ≡ wrong place = sym p ∙ 
 fault_and_none : (o : Option Refusal) (r : Refusal) → o ≡ Some r → o ≡ None → ⊥
 fault_and_none o r p q = let e : Some r ≡ None = sym p ∙ q in cc
 
-faults_differ : (r : Refusal) (bytes : List ℕ) (source : Doc) (next : ℕ) → reading bytes ≡ tree source next → fault_of source ≡ Some r → Accepts bytes → ⊥
-faults_differ r bytes source next read fault k =
+faults_differ : (r : Refusal) (o : TransformData) (bytes : List ℕ) (source : Doc) (next : ℕ) → reading bytes ≡ tree source next → fault_of o source ≡ Some r → Accepts o bytes → ⊥
+faults_differ r o bytes source next read fault k =
     let same = same_source bytes source k.source next k.next read k.spelled in
-    fault_and_none (fault_of k.source) r (sym (ap fault_of same) ∙ fault) k.faultless
+    fault_and_none (fault_of o k.source) r (sym (ap (fault_of o) same) ∙ fault) k.faultless
 
 -- Bytes that are accepted are refused at most as not certified.
-pub only_uncertified : (r : Refusal) (o : TransformData) (bytes : List ℕ) → Refuses r o bytes → Accepts bytes → is_uncertified (Some r) ≡ true
+pub only_uncertified : (r : Refusal) (o : TransformData) (bytes : List ℕ) → Refuses r o bytes → Accepts o bytes → is_uncertified (Some r) ≡ true
 only_uncertified json o bytes h k = absurd (nothing_read bytes k.source k.next k.spelled h)
 only_uncertified (shape place) o bytes h k = absurd (wrongly_read bytes place k.source k.next k.spelled h)
-only_uncertified (unbuilt_form kind) o bytes h k = absurd (faults_differ (unbuilt_form kind) bytes h.source h.next h.spelled h.cause k)
-only_uncertified (misplaced_node m place) o bytes h k = absurd (faults_differ (misplaced_node m place) bytes h.source h.next h.spelled h.cause k)
-only_uncertified (wide_member span) o bytes h k = absurd (faults_differ (wide_member span) bytes h.source h.next h.spelled h.cause k)
-only_uncertified (captured_name name place) o bytes h k = absurd (faults_differ (captured_name name place) bytes h.source h.next h.spelled h.cause k)
+only_uncertified (unbuilt_form kind) o bytes h k = absurd (faults_differ (unbuilt_form kind) o bytes h.source h.next h.spelled h.cause k)
+only_uncertified (misplaced_node m place) o bytes h k = absurd (faults_differ (misplaced_node m place) o bytes h.source h.next h.spelled h.cause k)
+only_uncertified (wide_member span) o bytes h k = absurd (faults_differ (wide_member span) o bytes h.source h.next h.spelled h.cause k)
+only_uncertified (captured_name name place) o bytes h k = absurd (faults_differ (captured_name name place) o bytes h.source h.next h.spelled h.cause k)
 only_uncertified (uncertified d) o bytes h k = refl
 
 same_bytes : (left left' : Option (List ℕ)) (bytes held : List ℕ) → GaveAll left left' bytes → left ≡ Some held → bytes ≡ held
 same_bytes None left' bytes held all e = cc
 same_bytes (Some had) left' bytes held all e = let f : had ≡ bytes = all.0 in cc
+
+same_options : (o : Option TransformData) (a b : TransformData) → o ≡ Some a → o ≡ Some b → a ≡ b
+same_options o a b p q = let e : Some a ≡ Some b = sym p ∙ q in cc
 
 -- Where nothing stands in the way, no refusal but that of a tree that is not certified can come, and so
 -- the run ends well, or so, or for want of memory.
@@ -83,19 +88,20 @@ pub completes : (o : Outcome) (came : Option Refusal) (options : TransformData) 
     → IfRefused o (λ f. Reported came (refusal_in f) taken taken')
     → OnWriteFault o (Rose told told')
     → IsReasonFor came options bytes
+    → options_in words ≡ Some options
     → GaveAll left left' bytes
     → NothingStands words left read read' wrote wrote' told told'
     → IsAnswerUncertifiedOrMemory o
-completes (Refused f) came options words left left' taken taken' read read' wrote wrote' told told' bytes only reported rose reason all stands =
+completes (Refused f) came options words left left' taken taken' read read' wrote wrote' told told' bytes only reported rose reason given all stands =
     ap is_uncertified reported.is
-    ∙ only_uncertified reported.refusal options bytes (subst (λ (r : Option Refusal). IsReasonFor r options bytes) (reported.same ∙ reported.is) reason) (subst Accepts (sym (same_bytes left left' bytes stands.bytes all stands.holds)) stands.accepted)
-completes Memory came options words left left' taken taken' read read' wrote wrote' told told' bytes only reported rose reason all stands = tt
-completes WriteFault came options words left left' taken taken' read read' wrote wrote' told told' bytes only reported rose reason all stands = absurd (stands.told_well rose)
-completes Done came options words left left' taken taken' read read' wrote wrote' told told' bytes only reported rose reason all stands = tt
-completes Diagnosed came options words left left' taken taken' read read' wrote wrote' told told' bytes only reported rose reason all stands = tt
-completes Usage came options words left left' taken taken' read read' wrote wrote' told told' bytes only reported rose reason all stands = absurd only
-completes ReadFault came options words left left' taken taken' read read' wrote wrote' told told' bytes only reported rose reason all stands = absurd only
-completes TooLong came options words left left' taken taken' read read' wrote wrote' told told' bytes only reported rose reason all stands = absurd only
+    ∙ only_uncertified reported.refusal options bytes (subst (λ (r : Option Refusal). IsReasonFor r options bytes) (reported.same ∙ reported.is) reason) (subst (λ o. Accepts o bytes) (same_options (options_in words) stands.options options stands.given given) (subst (Accepts stands.options) (sym (same_bytes left left' bytes stands.bytes all stands.holds)) stands.accepted))
+completes Memory came options words left left' taken taken' read read' wrote wrote' told told' bytes only reported rose reason given all stands = tt
+completes WriteFault came options words left left' taken taken' read read' wrote wrote' told told' bytes only reported rose reason given all stands = absurd (stands.told_well rose)
+completes Done came options words left left' taken taken' read read' wrote wrote' told told' bytes only reported rose reason given all stands = tt
+completes Diagnosed came options words left left' taken taken' read read' wrote wrote' told told' bytes only reported rose reason given all stands = tt
+completes Usage came options words left left' taken taken' read read' wrote wrote' told told' bytes only reported rose reason given all stands = absurd only
+completes ReadFault came options words left left' taken taken' read read' wrote wrote' told told' bytes only reported rose reason given all stands = absurd only
+completes TooLong came options words left left' taken taken' read read' wrote wrote' told told' bytes only reported rose reason given all stands = absurd only
 
 -- ---- what a sink took that failed
 
@@ -140,18 +146,24 @@ asked_same known listed a =
     let inlined = fun_ext a.inlined in
     cc
 
--- what is expected of the output, by the tables that the program made
-pub expected_same : (o : TransformData) (source : Doc) (x : ExpectedData) (known : Facts) (s : Scoped) → s ≡ resolved source → Answers known (facts_of s source o) → x ≡ expected_by s (asked_of known) o.typescript.only_remove_type_imports source → x ≡ expected_of o source
-expected_same o source x known s table a made =
-    made
-    ∙ (ap (λ (p : Asked). expected_by s p o.typescript.only_remove_type_imports source) (asked_same known (facts_of s source o) a)
-    ∙ ap (λ t. expected_by t (asked_by t o source) o.typescript.only_remove_type_imports source) table)
+module _ (o : TransformData) (source : Doc) (known : Facts) (s : Scoped) (table : s ≡ resolved source) (a : Answers known (facts_of s source o)) where
+  -- what is expected of the output, by the tables that the program made
+  expected_same : expected_by s (asked_of known) o source ≡ expected_of o source
+  expected_same =
+      ap (λ (p : Asked). expected_by s p o source) (asked_same known (facts_of s source o) a)
+      ∙ ap (λ t. expected_by t (asked_by t o source) o source) table
 
-module _ (o : TransformData) (source output : Doc) (x : ExpectedData)
-    (faultless : fault_of source ≡ None)
-    (is_expected : x ≡ expected_of o source) where
+  -- what the writer of the source is told, so
+  pub told_same : diagnostics (is_in known.kept) o source ≡ diagnostics (keeps o source) o source
+  told_same = ap (λ (p : Asked). diagnostics p.kept o source) (asked_same known (facts_of s source o) a ∙ ap (λ t. asked_by t o source) table)
+
+module _ (o : TransformData) (source output : Doc) (known : Facts) (s : Scoped) (table : s ≡ resolved source) (a : Answers known (facts_of s source o))
+    (faultless : fault_of o source ≡ None) where
+  abbrev x : ExpectedData
+  x = expected_by s (asked_of known) o source
+
   judged_source : (d : Option Difference) → Judges x output d → Judges (expected_of o source) output d
-  judged_source d judged = subst (λ y. Judges y output d) is_expected judged
+  judged_source d judged = subst (λ y. Judges y output d) (expected_same o source known s table a) judged
 
   pub passed : Judges x output None → Passes o source output
   passed judged = record { faultless = faultless; judged = judged_source None judged }
@@ -196,36 +208,32 @@ fits None false None (Some x) c d = refl
 fits None false None None (Some x) d = refl
 fits None false None None None d = refl
 
-source_fits : (source : Doc) (r : Refusal) → fault_of source ≡ Some r → is_of_source r ≡ true
-source_fits source r h = sym (ap fits_source h) ∙ fits (unbuilt source) (is_definition_file source) (first_misplacement (resolved source) source) (wide (resolved source) source) (first_capture (resolved source) source) source
+source_fits : (o : TransformData) (source : Doc) (r : Refusal) → fault_of o source ≡ Some r → is_of_source r ≡ true
+source_fits o source r h = sym (ap fits_source h) ∙ fits (unbuilt source) (is_definition_file source) (first_misplacement (resolved source) source) (wide (resolved source) source) (first_capture (resolved source) (is_in (kept (resolved source) source o.typescript)) source) source
 
 -- a fault of the source
-pub fault_hinders : (came : Option Refusal) (o : TransformData) (source : Doc) → IsFaultOf came (resolved source) source → IsHindrance came o source
+pub fault_hinders : (came : Option Refusal) (o : TransformData) (source : Doc) → IsFaultOf came (resolved source) source o → IsHindrance came o source
 fault_hinders came o source h = hinders came h
   where
-    named : (r : Refusal) → fault_of source ≡ Some r → Hinders r o source
-    named json h = absurd (false_true (source_fits source json h))
-    named (shape place) h = absurd (false_true (source_fits source (shape place) h))
+    named : (r : Refusal) → fault_of o source ≡ Some r → Hinders r o source
+    named json h = absurd (false_true (source_fits o source json h))
+    named (shape place) h = absurd (false_true (source_fits o source (shape place) h))
     named (unbuilt_form kind) h = h
     named (misplaced_node m place) h = h
     named (wide_member span) h = h
     named (captured_name name place) h = h
-    named (uncertified d) h = absurd (false_true (source_fits source (uncertified d) h))
+    named (uncertified d) h = absurd (false_true (source_fits o source (uncertified d) h))
 
-    hinders : (came : Option Refusal) → IsFaultOf came (resolved source) source → IsHindrance came o source
+    hinders : (came : Option Refusal) → IsFaultOf came (resolved source) source o → IsHindrance came o source
     hinders None h = tt
     hinders (Some r) h = named r h
 
 -- ---- where nothing is told
 
-none_told : (ts : List ℕ) → replicate (length ts) wrapper_stays ≡ [] → ts ≡ []
-none_told [] h = refl
-none_told (t ∷ ts) h = cc
-
 -- plain beside no wrappers is plain
-plain_then : (source output : Doc) → is_plain_output (targets source) output ≡ true → diagnostics source ≡ [] → is_plain output ≡ true
-plain_then source output h none =
-    sym (plain_beside_nothing output (holds.Node category.Program) (is_listed (targets source)) (λ n. ap (λ ts. is_listed ts n) (none_told (targets source) none))) ∙ h
+plain_then : (ks : ℕ → Bool) (o : TransformData) (source output : Doc) → is_plain_output (targets source) output ≡ true → tells_of_wrapper (diagnostics ks o source) ≡ false → is_plain output ≡ true
+plain_then ks o source output h none =
+    sym (plain_beside_nothing output (holds.Node category.Program) (is_listed (targets source)) (λ n. ap (λ ts. is_listed ts n) (no_targets ks o source none))) ∙ h
 
 -- ---- the settings
 
@@ -247,7 +255,7 @@ only_of law text d order valid other fits other_order =
 -- ---- what the bytes say
 
 module _ (options : TransformData) (bytes : List ℕ) (source : Doc) (next : ℕ) (read : reading bytes ≡ tree source next) where
-  pub passes_lowers : (told : List OxcDiagnostic) (text : List ℕ) (output : Doc) → Passes options source output → told ≡ diagnostics source → text ≡ text_of output → (is_tree output ≡ true → IsTextOfOne text output) → Lowers options bytes told text
+  pub passes_lowers : (told : List OxcDiagnostic) (text : List ℕ) (output : Doc) → Passes options source output → told ≡ diagnostics (keeps options source) options source → text ≡ text_of output → (is_tree output ≡ true → IsTextOfOne text output) → Lowers options bytes told text
   passes_lowers told text output p all_told written only =
       record {
         source = source;
@@ -257,15 +265,16 @@ module _ (options : TransformData) (bytes : List ℕ) (source : Doc) (next : ℕ
         all_told = all_told;
         valid = p.judged.0.0;
         plain_beside = p.judged.0.1;
-        plain = λ none. plain_then source output p.judged.0.1 (sym all_told ∙ none);
+        plain = λ none. plain_then (keeps options source) options source output p.judged.0.1 (sym (ap tells_of_wrapper all_told) ∙ none);
         settings = p.judged.0.2;
-        exports = exports_stand (keeps options source) options.typescript.only_remove_type_imports source output (right_exports (expected_of options source).settings output p.judged.0.2);
-        same_word = sym p.judged.1;
+        exports = exports_stand (is_due options source) source output (right_exports (expected_of options source).settings output p.judged.0.2);
+        bound_once = p.judged.1.0;
+        same_word = sym p.judged.1.1;
         written = written;
         only = only p.judged.0.0;
       }
 
-  pub passes_accepts : (output : Doc) → Passes options source output → Accepts bytes
+  pub passes_accepts : (output : Doc) → Passes options source output → Accepts options bytes
   passes_accepts output p = record { source = source; next = next; spelled = read; faultless = p.faultless }
 
   hindered : (r : Refusal) → Hinders r options source → Refuses r options bytes

@@ -1,8 +1,8 @@
 -- What is known of a source, with which its output is compared.
-use Rattle.std.specs.Prelude.{◌≡◌, ℕ, List, [], Bool, Option}
+use Rattle.std.specs.Prelude.{ℕ, List, [], Bool, Option}
 use Rattle.oxt_check.specs.Faults.{facts_of, first_fault}
 use Rattle.oxt_check.specs.Refusals.{Refusal}
-use Rattle.oxt_facts.specs.Facts.{of_output, of_told_source}
+use Rattle.oxt_facts.specs.Facts.{Known, of_output, of_told_source}
 use Rattle.oxt_facts.specs.Entry.{Entry, entries}
 use Rattle.oxt_told.specs.Groups.{groups_of}
 use Rattle.oxt_told.specs.Source.{Asked}
@@ -12,6 +12,7 @@ use Rattle.oxt_options.specs.Facts.{Facts, is_in, last_constant}
 use Rattle.oxt_resolve.specs.Resolved.{resolved}
 use Rattle.oxt_scoping.specs.Scoped.{Scoped}
 use Rattle.oxt_check.specs.Targets.{targets}
+use Rattle.oxt_modules.specs.Due.{is_export_due}
 use Rattle.oxt_transform.specs.Settings.{SettingsData, settings_by, settings_view}
 use Rattle.oxt_transform.specs.declared.expected.Expected.{Expected}
 use Rattle.oxt_tree.specs.Doc.{Doc}
@@ -19,9 +20,9 @@ use Rattle.oxt_names.specs.Made.{all_added}
 use Rattle.oxt_names.specs.Names.{names}
 use Rattle.oxt_word.specs.Word.{word}
 
--- the first fault of a source
-abbrev pub fault_of : Doc → Option Refusal
-fault_of source = first_fault (resolved source) source
+-- the first fault of a source under the options
+abbrev pub fault_of : TransformData → Doc → Option Refusal
+fault_of o source = first_fault (resolved source) source o
 
 -- the names of a source
 abbrev pub names_of : Doc → List (List ℕ)
@@ -39,22 +40,33 @@ asked_by s o source = listed_in (facts_of s source o)
 abbrev pub asked : TransformData → Doc → Asked
 asked o source = asked_by (resolved source) o source
 
--- the specifier of that number is kept under the options
+-- what of imports and exports is kept under the options, by the numbers of the nodes
 abbrev pub keeps : TransformData → Doc → ℕ → Bool
 keeps o source = (asked o source).kept
 
--- The effect word of a source, of whose nodes that is asked and of which that is the table: each name with its group. The
--- flag says whether only imports that say so themselves are imports of types.
-abbrev pub source_word_by : Scoped → Asked → Bool → Doc → List Entry
-source_word_by s p all source = word (of_told_source (told_of_source s p all source) (groups_of s source)) source
+-- whether an output of a source of whose nodes that is asked has to say by `export {}` that it is a module
+abbrev pub due_by : Asked → TransformData → Doc → Bool
+due_by p o source = is_export_due p.kept p.first o.typescript.only_remove_type_imports source
+
+abbrev pub is_due : TransformData → Doc → Bool
+is_due o source = due_by (asked o source) o source
+
+-- The effect word of a source under the options, of whose nodes that is asked and of which that is the table: each name
+-- with its group.
+abbrev pub source_word_by : Scoped → Asked → TransformData → Doc → List Entry
+source_word_by s p o source = word (of_told_source (told_of_source s p o source) (groups_of s source)) source
 
 -- the effect word of a source under the options
 abbrev pub source_word : TransformData → Doc → List Entry
-source_word o source = source_word_by (resolved source) (asked o source) o.typescript.only_remove_type_imports source
+source_word o source = source_word_by (resolved source) (asked o source) o source
 
--- the effect word of what was made of a source that has these names, with the groups of its own names
+-- what is known of the names of what was made of a source that has these names: which are made, and their groups
+abbrev pub known_of_output : List (List ℕ) → Doc → Known
+known_of_output names output = of_output names (groups_of (resolved output) output) output
+
+-- the effect word of what was made of a source that has these names
 abbrev pub output_word : List (List ℕ) → Doc → List Entry
-output_word names output = word (of_output names (groups_of (resolved output) output) output) output
+output_word names output = word (known_of_output names output) output
 
 -- the effect word of the output, the names of the source, the settings of the output, and the numbers of the wrappers
 -- that may stay
@@ -73,16 +85,17 @@ expected_view x =
       staying = x.targets;
     }
 
--- What is expected of the output of a source of whose nodes that is asked and of which that is the table.
-abbrev pub expected_by : Scoped → Asked → Bool → Doc → ExpectedData
-expected_by s p all source =
+-- What is expected under the options of the output of a source of whose nodes that is asked and of which that is the
+-- table.
+abbrev pub expected_by : Scoped → Asked → TransformData → Doc → ExpectedData
+expected_by s p o source =
     record {
-      word = source_word_by s p all source;
+      word = source_word_by s p o source;
       names = names_of source;
-      settings = settings_by p.kept all source;
+      settings = settings_by (due_by p o source) source;
       staying = targets source;
     }
 
--- the same under options
+-- what is expected of the output of a source under the options
 abbrev pub expected_of : TransformData → Doc → ExpectedData
-expected_of o source = expected_by (resolved source) (asked o source) o.typescript.only_remove_type_imports source
+expected_of o source = expected_by (resolved source) (asked o source) o source

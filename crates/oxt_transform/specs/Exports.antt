@@ -1,10 +1,9 @@
 -- The `export {}` statements of a program, which say that it is a module.
-use Rattle.std.specs.Prelude.{◌≡◌, ℕ, List, [], ◌∷◌, ◌++◌, Bool, true, false, ◌&&◌, nat_eq, if◌then◌else◌, codes}
-use Rattle.oxt_modules.specs.Due.{is_export_due}
+use Rattle.std.specs.Prelude.{◌≡◌, List, [], ◌∷◌, ◌++◌, Bool, true, false, ◌&&◌, nat_eq, if◌then◌else◌, codes}
 use Rattle.oxt_grammar.specs.Places.{same_kind}
 use Rattle.oxt_grammar.specs.declared.kind.Kind.{Kind}
 use Rattle.oxt_grammar.specs.declared.kind.Kind.TheVariants as kind
-use Rattle.oxt_tree.specs.Doc.{Doc, nil, flag, number, text, list, node, Docs, no_docs, doc}
+use Rattle.oxt_tree.specs.Doc.{Doc, list, node, Docs, no_docs, doc}
 use Rattle.oxt_tree.specs.Fields.{elements, field_of, is_empty_list, is_text, named}
 use Rattle.oxt_tree.specs.Syntax.{is_definition_file}
 use Rattle.oxt_tree.specs.declared.ids.Span.{Span}
@@ -55,10 +54,10 @@ exports_left due source =
     else empty_exports (body source)
 
 -- The `export {}` statements of the output's body are those of its source's, in order, and one more as the last
--- statement exactly where one is due. The first argument is the specifiers of the source that are kept.
-pub record HasExports (ks : ℕ → Bool) (all : Bool) (source output : Doc) : Type 0 where
-  pub same : empty_exports (body output) ≡ exports_left (is_export_due ks all source) source
-  pub last : is_export_due ks all source ≡ true → ends_in_export (body output) ≡ true
+-- statement exactly where one is due.
+pub record HasExports (is_due : Bool) (source output : Doc) : Type 0 where
+  pub same : empty_exports (body output) ≡ exports_left is_due source
+  pub last : is_due ≡ true → ends_in_export (body output) ≡ true
 
 -- both are one span, and one list of spans
 abbrev pub same_span : Span → Span → Bool

@@ -1,3 +1,5 @@
+pub mod Bound
+pub mod BoundViews
 pub mod Expected
 pub mod Exports
 pub mod Faults

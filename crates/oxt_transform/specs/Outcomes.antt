@@ -239,7 +239,7 @@ pub record NothingStands (words : List Name) (left : Option (List ℕ)) (read re
   pub bytes : List ℕ
   pub holds : left ≡ Some bytes
   pub within : length bytes ≤ limit
-  pub accepted : Accepts bytes
+  pub accepted : Accepts options bytes
   pub read_well : Rose read read' → ⊥
   pub wrote_well : Rose wrote wrote' → ⊥
   pub told_well : Rose told told' → ⊥

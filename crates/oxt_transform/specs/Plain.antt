@@ -1,5 +1,5 @@
 -- Programs that are plain JavaScript already, and the options that leave them as they are.
-use Rattle.std.specs.Prelude.{◌≡◌, ℕ, List, Bool, true, false, not, ◌&&◌, is_none, codes}
+use Rattle.std.specs.Prelude.{◌≡◌, Bool, true, false, not, ◌&&◌, is_none, codes}
 use Rattle.std.specs.List.{list_any}
 use Rattle.oxt_options.specs.Options.{TransformData}
 use Rattle.oxt_options.specs.declared.options.Module.{Module}

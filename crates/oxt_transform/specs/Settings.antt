@@ -1,6 +1,5 @@
 -- The settings of a program, which are no part of its word.
 use Rattle.std.specs.Prelude.{List, ℕ, Bool, true, false, not, ◌&&◌, ◌||◌, if◌then◌else◌, Option, None, Some, codes}
-use Rattle.oxt_modules.specs.Due.{is_export_due}
 use Rattle.oxt_tree.specs.Syntax.{is_definition_file}
 use Rattle.oxt_transform.specs.Exports.{body, empty_exports, ends_in_export, exports_left, same_spans}
 use Rattle.oxt_transform.specs.declared.settings.Settings.{Settings}
@@ -31,15 +30,14 @@ pub record SettingsData : Type 0 where
 abbrev pub settings_view : Settings → SettingsData
 settings_view s = record { script = s.script; definitions = s.definitions; exports = s.exports.items; export_due = s.export_due }
 
--- those of the output of a source of which these specifiers are kept; the flag says whether only imports that say so
--- themselves are imports of types
-abbrev pub settings_by : (ℕ → Bool) → Bool → Doc → SettingsData
-settings_by ks all source =
+-- those of the output of a source, where an `export {}` is due in it or not
+abbrev pub settings_by : Bool → Doc → SettingsData
+settings_by is_due source =
     record {
       script = is_script source;
       definitions = is_definition_file source;
-      exports = exports_left (is_export_due ks all source) source;
-      export_due = is_export_due ks all source;
+      exports = exports_left is_due source;
+      export_due = is_due;
     }
 
 -- a file of definitions where the source is one, and else JavaScript

@@ -2,12 +2,14 @@
 ghost use Rattle.std.specs.Prelude.{◌≡◌, IfErr, IfOk, None, OnOk, option_map};
 ghost use Rattle.oxt_check.specs.Faults.{refusal_in};
 ghost use Rattle.oxt_facts.specs.Entry.{entries};
-ghost use Rattle.oxt_transform.specs.Expected.{expected_view, output_word};
+ghost use Rattle.oxt_transform.specs.Expected.{expected_view, known_of_output};
 ghost use Rattle.oxt_resolve.specs.Resolved.{resolved};
 ghost use Rattle.oxt_told.specs.Groups.{groups_of};
-ghost use Rattle.oxt_transform.specs.Refusals.{Compares, IsFailure, Judges, difference_in};
+ghost use Rattle.oxt_transform.specs.Refusals.{Compares, IsFailure, Judges, JudgesNames, difference_in};
+ghost use Rattle.oxt_word.specs.Word.{word};
 ghost use Rattle.oxt_tree.specs.View.{node_doc};
 
+use crate::bound::first_misbound;
 use crate::expected::Expected;
 use crate::fault::Fault;
 use crate::passes::drop_table;
@@ -42,8 +44,9 @@ pub(crate) fn certify(alloc: Global, expected: &Expected, output: &Node) -> Resu
     }
 }
 
-/// How the output fails to be of the grammar, plain, and of the settings and the effect word that are expected, in this
-/// order; none where it does not fail. In the word each name has its owner.
+/// How the output fails to be of the grammar, plain, of the settings that are expected, with each made name bound once,
+/// and of the effect word that is expected, in this order; none where it does not fail. In the word each name has its
+/// owner.
 ///
 /// # Errors
 ///
@@ -65,17 +68,33 @@ pub fn find_mismatch(
     if let Some(place) = wrong_setting(alloc, &expected.settings, output)? {
         return Ok(Some(Mismatch::Setting { place }));
     }
-    let word = output_word(alloc, &expected.names, output)?;
-    Ok(differing_item(expected.word.as_slice(), word.as_slice()))
+    let facts = facts_of_output(alloc, &expected.names, output)?;
+    find_mismatch_of_names(alloc, expected.word.as_slice(), &facts, output)
 }
 
-/// The effect word of what was made of a source that has these names.
-fn output_word(alloc: Global, names: &UidNames, output: &Node) -> Result<Vec<Item>, OutOfMemory>
-    ensures { IfOk result (λ word. entries word.items ≡ output_word names.now (node_doc output.now)) }
+/// The same of its names and its word, by what is known of these.
+fn find_mismatch_of_names(
+    alloc: Global,
+    expected: &[Item],
+    facts: &Facts,
+    output: &Node,
+) -> Result<Option<Mismatch>, OutOfMemory>
+    ensures { IfOk result (λ mismatch. JudgesNames facts.now (entries expected.now) (node_doc output.now)
+        (option_map difference_in mismatch)) }
+{
+    if let Some(name) = first_misbound(alloc, facts, output)? {
+        return Ok(Some(Mismatch::Binding { name }));
+    }
+    let word = word_of(facts, output)?;
+    Ok(differing_item(expected, word.as_slice()))
+}
+
+/// What is known of the names of what was made of a source that has these names.
+fn facts_of_output(alloc: Global, names: &UidNames, output: &Node) -> Result<Facts, OutOfMemory>
+    ensures { IfOk result (λ facts. facts ≡ known_of_output names.now (node_doc output.now)) }
 {
     let groups = groups_of_tree(alloc, output)?;
-    let facts = Facts::of_output(alloc, names, groups, output)?;
-    word_of(&facts, output)
+    Facts::of_output(alloc, names, groups, output)
 }
 
 /// The groups that the names of the output mean and declare.

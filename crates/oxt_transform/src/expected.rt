@@ -1,15 +1,18 @@
 //! What is known of a source, with which its output is compared.
 ghost use Rattle.std.specs.Prelude.{◌≡◌, IfOk};
 ghost use Rattle.oxt_facts.specs.Entry.{entries};
+ghost use Rattle.oxt_options.specs.Options.{transform_view};
 ghost use Rattle.oxt_told.specs.Source.{asked_of};
-ghost use Rattle.oxt_transform.specs.Expected.{expected_by, expected_view, source_word_by};
+ghost use Rattle.oxt_transform.specs.Expected.{due_by, expected_by, expected_view, source_word_by};
 ghost use Rattle.oxt_tree.specs.View.{node_doc};
 
 use crate::settings::Settings;
 use oxt_check::targets::WrappedTargets;
 use oxt_facts::facts::Facts;
 use oxt_facts::item::Item;
+use oxt_modules::due::is_export_due;
 use oxt_names::uid::UidNames;
+use oxt_options::TransformOptions;
 use oxt_options::plan::Plan;
 use oxt_scoping::scoping::Scoping;
 use oxt_told::groups::groups_of;
@@ -33,8 +36,7 @@ pub struct Expected {
 }
 
 impl Expected {
-    /// What the output of that source is to be, by its table of scopes and its plan, where only imports that say so
-    /// themselves are imports of types, or not.
+    /// What the output of that source is to be, by its table of scopes, its plan and the options.
     ///
     /// # Errors
     ///
@@ -44,13 +46,13 @@ impl Expected {
         source: &Node,
         scoping: &Scoping,
         plan: &Plan,
-        only_remove_type_imports: bool,
+        options: &TransformOptions,
     ) -> Result<Expected, OutOfMemory>
         ensures { IfOk result (λ expected. expected_view expected
-            ≡ expected_by scoping.now (asked_of plan.now) only_remove_type_imports (node_doc source.now)) }
+            ≡ expected_by scoping.now (asked_of plan.now) (transform_view options.now) (node_doc source.now)) }
     {
-        let word = source_word(alloc, source, scoping, plan, only_remove_type_imports)?;
-        let settings = Settings::of(alloc, source, plan, only_remove_type_imports)?;
+        let word = source_word(alloc, source, scoping, plan, options)?;
+        let settings = Settings::of(alloc, source, is_due(source, plan, options))?;
         let targets = WrappedTargets::of(alloc, source)?;
         let names = UidNames::of_tree(alloc, source)?;
         Ok(Expected {
@@ -62,18 +64,25 @@ impl Expected {
     }
 }
 
+/// Whether `export {}` has to say in the output of the source that it is a module.
+fn is_due(source: &Node, plan: &Plan, options: &TransformOptions) -> bool
+    ensures { result ≡ due_by (asked_of plan.now) (transform_view options.now) (node_doc source.now) }
+{
+    is_export_due(source, plan, options.typescript.only_remove_type_imports)
+}
+
 /// The effect word of the source, which is told what the plan says of its nodes.
 fn source_word(
     alloc: Global,
     source: &Node,
     scoping: &Scoping,
     plan: &Plan,
-    only_remove_type_imports: bool,
+    options: &TransformOptions,
 ) -> Result<Vec<Item>, OutOfMemory>
     ensures { IfOk result (λ word. entries word.items
-        ≡ source_word_by scoping.now (asked_of plan.now) only_remove_type_imports (node_doc source.now)) }
+        ≡ source_word_by scoping.now (asked_of plan.now) (transform_view options.now) (node_doc source.now)) }
 {
-    let told = told_of_source(alloc, source, scoping, plan, only_remove_type_imports)?;
+    let told = told_of_source(alloc, source, scoping, plan, options)?;
     let groups = groups_of(alloc, source, scoping)?;
     let facts = Facts::of_told_source(alloc, told, groups)?;
     word_of(&facts, source)

@@ -1,6 +1,7 @@
 //! From the bytes of a TypeScript tree to those of a plain JavaScript tree, and the program's one call.
 #![tactic(auto)]
 
+mod bound;
 pub mod certificate;
 pub mod expected;
 mod exports;

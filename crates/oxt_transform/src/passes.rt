@@ -53,11 +53,7 @@ fn retain_and_walk(
     options: &TransformOptions,
     tables: Tables,
 ) -> Result<(), OutOfMemory> {
-    retain_modules(
-        program,
-        &tables.plan,
-        options.typescript.only_remove_type_imports,
-    )?;
+    retain_modules(program, &tables.plan, options)?;
     if program.root.is_definition_file() {
         return Ok(());
     }
@@ -74,7 +70,7 @@ fn walk(
     let Tables { scoping, plan } = tables;
     let state = TransformState::new(options, false);
     let mut ctx = TraverseCtx::new(alloc, scoping, plan, state, program.ids);
-    let walked = lower_program(&mut program.root, &options.typescript, &mut ctx);
+    let walked = lower_program(&mut program.root, options, &mut ctx);
     program.ids = ctx.ids;
     leave(ctx);
     walked

@@ -1,6 +1,5 @@
 //! The settings of a program, which are no part of its effect word.
 ghost use Rattle.std.specs.Prelude.{◌≡◌, IfOk, option_map};
-ghost use Rattle.oxt_options.specs.Facts.{is_in};
 ghost use Rattle.oxt_transform.specs.Exports.{exports_left};
 ghost use Rattle.oxt_transform.specs.Settings.{differs, has_exports, has_language, is_javascript, is_script, settings_by, settings_view, wrong_setting};
 ghost use Rattle.oxt_tree.specs.Names.{name_bytes};
@@ -8,8 +7,6 @@ ghost use Rattle.oxt_tree.specs.View.{docs_in, node_doc};
 
 use crate::exports::{empty_exports, ends_in_export, same_spans};
 use oxt_grammar::field::Field;
-use oxt_modules::due::is_export_due;
-use oxt_options::plan::Plan;
 use oxt_tree::ids::{OutOfMemory, Span};
 use oxt_tree::name::Name;
 use oxt_tree::tree::{Node, Part};
@@ -29,21 +26,15 @@ pub struct Settings {
 }
 
 impl Settings {
-    /// Those of the output of that source, whose specifiers are kept as the plan says.
+    /// Those of the output of that source, where an `export {}` is due in it or not.
     ///
     /// # Errors
     ///
     /// `OutOfMemory` for want of memory alone.
-    pub fn of(
-        alloc: Global,
-        source: &Node,
-        plan: &Plan,
-        only_remove_type_imports: bool,
-    ) -> Result<Settings, OutOfMemory>
-        ensures { IfOk result (λ settings. settings_view settings
-            ≡ settings_by (is_in plan.now.kept) only_remove_type_imports (node_doc source.now)) }
+    pub fn of(alloc: Global, source: &Node, export_due: bool) -> Result<Settings, OutOfMemory>
+        ensures { IfOk result
+            (λ settings. settings_view settings ≡ settings_by export_due (node_doc source.now)) }
     {
-        let export_due = is_export_due(source, plan, only_remove_type_imports);
         let exports = exports_left(alloc, source, export_due)?;
         Ok(Settings {
             script: is_script(source),

@@ -7,12 +7,13 @@ ghost use Rattle.oxt_json_write.specs.Spelled.{text_of};
 ghost use Rattle.oxt_options.specs.Options.{transform_view};
 ghost use Rattle.oxt_options.specs.Facts.{Answers};
 ghost use Rattle.oxt_resolve.specs.Resolved.{resolved};
-ghost use Rattle.oxt_transform.specs.Expected.{fault_of};
+ghost use Rattle.oxt_told.specs.Source.{asked_of};
+ghost use Rattle.oxt_transform.specs.Expected.{expected_by, fault_of, keeps};
 ghost use Rattle.oxt_transform.specs.Faults.{refusal_in, IsReasonFor, text_in, told_in};
 ghost use Rattle.oxt_transform.specs.Lowering.{IsTextOfOne, Lowers, Passes, ReturnsPlain};
 ghost use Rattle.oxt_transform.specs.Outcomes.{answer_of};
 ghost use Rattle.oxt_transform.specs.Plain.{ComesBack};
-ghost use Rattle.oxt_transform.specs.Refusals.{Accepts, IsHindrance};
+ghost use Rattle.oxt_transform.specs.Refusals.{Accepts, IsFailure, IsHindrance, Judges};
 ghost use Rattle.oxt_tree.specs.View.{node_doc};
 ghost use Rattle.oxt_valid.specs.Valid.{is_tree};
 
@@ -79,8 +80,7 @@ impl TransformerReturn {
 ///
 /// A wrapper around a target that may not be assigned to stays, and a diagnostic tells of it.
 ///
-/// Of the options act `only_remove_type_imports`, `optimize_const_enums`, `optimize_enums`, `jsx_pragma` and
-/// `jsx_pragma_frag` so far; the others say only which programs are left alone.
+/// Of the options those of decorators and of class fields do not act yet: they say only which programs are left alone.
 ///
 /// # Errors
 ///
@@ -94,7 +94,7 @@ pub fn transform_text(
         (λ r. Lowers (transform_view options.now) text.now (told_in r) (text_in r)) }
     ensures returns_plain { IfOk result
         (λ r. ReturnsPlain (transform_view options.now) text.now (text_in r)) }
-    ensures accepted { OnOk result (Accepts text.now) }
+    ensures accepted { OnOk result (Accepts (transform_view options.now) text.now) }
     ensures refused { IfErr result (λ f. IsReasonFor (refusal_in f) (transform_view options.now) text.now) }
 {
     let mut program = match read_tree(alloc, text) {
@@ -106,8 +106,8 @@ pub fn transform_text(
     Ok(TransformerReturn { bytes, diagnostics })
 }
 
-/// Lowers the program: its names are resolved, it is checked, its effect word is read, it is rewritten, and what came
-/// out is tested; gives what its writer is told.
+/// Lowers the program: its names are resolved, it is checked, what its writer is told is read, and it is rewritten and
+/// tested.
 ///
 /// # Errors
 ///
@@ -119,7 +119,8 @@ fn lower(
 ) -> Result<Vec<OxcDiagnostic>, Fault>
     ensures passes { OnOk result (Passes (transform_view options.now)
         (node_doc program.old.root) (node_doc program.new.root)) }
-    ensures told { IfOk result (λ told. told.items ≡ diagnostics (node_doc program.old.root)) }
+    ensures told { IfOk result (λ told. told.items
+        ≡ diagnostics (keeps (transform_view options.now) (node_doc program.old.root)) (transform_view options.now) (node_doc program.old.root)) }
     ensures comes_back { OnOk result (ComesBack (transform_view options.now)
         (node_doc program.old.root) (node_doc program.new.root)) }
     ensures refused { IfErr result
@@ -129,26 +130,49 @@ fn lower(
         Ok(tables) => tables,
         Err(fault) => return Err(fault),
     };
+    let told = match diagnostics_of(alloc, &program.root, &tables.plan, options) {
+        Ok(told) => told,
+        Err(_) => return Err(Fault::OutOfMemory),
+    };
+    match rewrite_and_test(alloc, program, options, tables) {
+        Ok(()) => Ok(told),
+        Err(fault) => Err(fault),
+    }
+}
+
+/// Rewrites the program, of which the tables are known, and tests what comes out against its effect word, which is read
+/// before.
+///
+/// # Errors
+///
+/// How the output fails its test; nothing else but want of memory.
+fn rewrite_and_test(
+    alloc: Global,
+    program: &mut Program,
+    options: &TransformOptions,
+    tables: Tables,
+) -> Result<(), Fault>
+    ensures judged { OnOk result (Judges
+        (expected_by tables.scoping (asked_of tables.plan) (transform_view options.now) (node_doc program.old.root))
+        (node_doc program.new.root) None) }
+    ensures comes_back { OnOk result (ComesBack (transform_view options.now)
+        (node_doc program.old.root) (node_doc program.new.root)) }
+    ensures failed { IfErr result (λ f. IsFailure (refusal_in f)
+        (expected_by tables.scoping (asked_of tables.plan) (transform_view options.now) (node_doc program.old.root))
+        (node_doc program.new.root)) }
+{
     let expected = match Expected::of(
         alloc,
         &program.root,
         &tables.scoping,
         &tables.plan,
-        options.typescript.only_remove_type_imports,
+        options,
     ) {
         Ok(expected) => expected,
         Err(_) => return Err(Fault::OutOfMemory),
     };
     match rewrite(alloc, program, options, tables) {
-        Ok(()) => {}
-        Err(_) => return Err(Fault::OutOfMemory),
-    }
-    match certify(alloc, &expected, &program.root) {
-        Ok(()) => {}
-        Err(fault) => return Err(fault),
-    }
-    match diagnostics_of(alloc, &expected.targets) {
-        Ok(told) => Ok(told),
+        Ok(()) => certify(alloc, &expected, &program.root),
         Err(_) => Err(Fault::OutOfMemory),
     }
 }
@@ -166,8 +190,9 @@ fn resolve_and_check(
     ensures table { IfOk result (λ t. t.scoping ≡ resolved (node_doc program.now.root)) }
     ensures plan { IfOk result (λ t. Answers t.plan
         (facts_of t.scoping (node_doc program.now.root) (transform_view options.now))) }
-    ensures accepted { OnOk result (fault_of (node_doc program.now.root) ≡ None) }
-    ensures refused { IfErr result (λ f. IsFaultOf (refusal_in f) (resolved (node_doc program.now.root)) (node_doc program.now.root)) }
+    ensures accepted { OnOk result (fault_of (transform_view options.now) (node_doc program.now.root) ≡ None) }
+    ensures refused { IfErr result (λ f. IsFaultOf (refusal_in f)
+        (resolved (node_doc program.now.root)) (node_doc program.now.root) (transform_view options.now)) }
 {
     match resolve(alloc, &program.root) {
         Ok(scoping) => check_resolved(alloc, program, scoping, options),
@@ -189,8 +214,10 @@ fn check_resolved(
     ensures table { IfOk result (λ t. t.scoping ≡ scoping) }
     ensures plan { IfOk result (λ t. Answers t.plan
         (facts_of t.scoping (node_doc program.now.root) (transform_view options.now))) }
-    ensures accepted { OnOk result (first_fault scoping (node_doc program.now.root) ≡ None) }
-    ensures refused { IfErr result (λ f. IsFaultOf (refusal_in f) scoping (node_doc program.now.root)) }
+    ensures accepted { OnOk result
+        (first_fault scoping (node_doc program.now.root) (transform_view options.now) ≡ None) }
+    ensures refused { IfErr result
+        (λ f. IsFaultOf (refusal_in f) scoping (node_doc program.now.root) (transform_view options.now)) }
 {
     match check(alloc, program, &scoping, options) {
         Ok(plan) => Ok(Tables { scoping, plan }),

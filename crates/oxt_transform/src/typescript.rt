@@ -3,9 +3,12 @@ ghost use Rattle.std.specs.Prelude.{OnOk};
 ghost use Rattle.oxt_traverse.specs.Level.{IsLevel};
 
 use oxt_ctx::context::TraverseCtx;
+use oxt_erase::extensions::TypeScriptRewriteExtensions;
+use oxt_erase::module::TypeScriptModule;
 use oxt_erase::pass::TypeScriptAnnotations;
+use oxt_lower::namespace::TypeScriptNamespace;
 use oxt_lower::pass::TypeScriptEnum;
-use oxt_options::TypeScriptOptions;
+use oxt_options::TransformOptions;
 use oxt_traverse::dispatch::{run_at_node, run_at_statements};
 use oxt_traverse::hook::Hook;
 use oxt_traverse::traverse::Traverse;
@@ -23,7 +26,7 @@ use oxt_walk::walk::walk_program;
 /// dropped.
 pub fn lower_program(
     program: &mut Node,
-    options: &TypeScriptOptions,
+    options: &TransformOptions,
     ctx: &mut TraverseCtx,
 ) -> Result<(), OutOfMemory>
     ensures level { OnOk result (IsLevel ctx.old ctx.new) }
@@ -31,20 +34,26 @@ pub fn lower_program(
     walk_program(&mut TypeScript::new(options), program, ctx)
 }
 
-/// The TypeScript passes: at each hook those of the passes that have it, the one that lowers enums before the one that
-/// erases types.
-#[derive(Clone, Copy, Debug)]
+/// The TypeScript passes: at each hook those of the passes that have it, in the order of the fields.
+#[derive(Clone, Copy)]
 pub struct TypeScript {
+    namespaces: TypeScriptNamespace,
     enums: TypeScriptEnum,
     annotations: TypeScriptAnnotations,
+    modules: TypeScriptModule,
+    extensions: Option<TypeScriptRewriteExtensions>,
 }
 
 impl TypeScript {
     /// The passes under these options.
-    pub fn new(options: &TypeScriptOptions) -> TypeScript {
+    pub fn new(options: &TransformOptions) -> TypeScript {
+        let typescript = &options.typescript;
         TypeScript {
-            enums: TypeScriptEnum::new(options.optimize_const_enums, options.optimize_enums),
+            namespaces: TypeScriptNamespace::new(typescript),
+            enums: TypeScriptEnum::new(typescript.optimize_const_enums, typescript.optimize_enums),
             annotations: TypeScriptAnnotations::new(),
+            modules: TypeScriptModule::new(typescript.only_remove_type_imports, options.module),
+            extensions: TypeScriptRewriteExtensions::new(typescript),
         }
     }
 }
@@ -56,8 +65,14 @@ impl Traverse for TypeScript {
         node: &mut Node,
         ctx: &mut TraverseCtx,
     ) -> Result<(), OutOfMemory> {
+        run_at_node(&mut self.namespaces, hook, node, ctx)?;
         run_at_node(&mut self.enums, hook, node, ctx)?;
-        run_at_node(&mut self.annotations, hook, node, ctx)
+        run_at_node(&mut self.annotations, hook, node, ctx)?;
+        run_at_node(&mut self.modules, hook, node, ctx)?;
+        match &mut self.extensions {
+            Some(extensions) => run_at_node(extensions, hook, node, ctx),
+            None => Ok(()),
+        }
     }
 
     fn at_statements(
@@ -66,7 +81,13 @@ impl Traverse for TypeScript {
         statements: &mut Vec<Part>,
         ctx: &mut TraverseCtx,
     ) -> Result<(), OutOfMemory> {
+        run_at_statements(&mut self.namespaces, hook, statements, ctx)?;
         run_at_statements(&mut self.enums, hook, statements, ctx)?;
-        run_at_statements(&mut self.annotations, hook, statements, ctx)
+        run_at_statements(&mut self.annotations, hook, statements, ctx)?;
+        run_at_statements(&mut self.modules, hook, statements, ctx)?;
+        match &mut self.extensions {
+            Some(extensions) => run_at_statements(extensions, hook, statements, ctx),
+            None => Ok(()),
+        }
     }
 }

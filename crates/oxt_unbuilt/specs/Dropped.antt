@@ -1,8 +1,12 @@
 -- Declarations and class elements that stand for nothing at run time.
 use Rattle.std.specs.Prelude.{Bool, false, ◌&&◌, ◌||◌}
-use Rattle.oxt_grammar.specs.Places.{kind_in}
+use Rattle.oxt_declares.specs.RoleOf.{role_of}
+use Rattle.oxt_declares.specs.TypesAlone.{field_of_types, stands_for_types}
+use Rattle.oxt_grammar.specs.Places.{kind_in, same_kind}
+use Rattle.oxt_grammar.specs.Rows.{row_of}
 use Rattle.oxt_grammar.specs.declared.category.Category.TheVariants as category
 use Rattle.oxt_grammar.specs.declared.kind.Kind.{Kind}
+use Rattle.oxt_grammar.specs.declared.kind.Kind.TheVariants as kind
 use Rattle.oxt_tree.specs.Doc.{Doc, nil, flag, number, text, list, node, Docs}
 use Rattle.oxt_tree.specs.Syntax.{is_erased}
 
@@ -10,9 +14,14 @@ use Rattle.oxt_tree.specs.Syntax.{is_erased}
 abbrev pub is_droppable : Kind → Bool
 is_droppable k = kind_in category.Declaration k || kind_in category.ClassElement k
 
--- such a node that is erased
+-- a block of a namespace that holds nothing but types
+abbrev pub is_namespace_of_types : Kind → Docs → Bool
+is_namespace_of_types k ds =
+    same_kind k kind.TSNamespaceDeclaration && stands_for_types (role_of k) k ds (field_of_types ds (row_of k))
+
+-- such a node that is erased, or that is such a block
 abbrev pub is_dropped_by : Kind → Docs → Bool
-is_dropped_by k ds = is_droppable k && is_erased k ds
+is_dropped_by k ds = is_droppable k && (is_erased k ds || is_namespace_of_types k ds)
 
 abbrev pub is_dropped : Doc → Bool
 is_dropped nil = false

@@ -1,18 +1,26 @@
 //! Declarations and class elements that stand for nothing at run time.
 ghost use Rattle.std.specs.Prelude.{◌≡◌};
-ghost use Rattle.oxt_unbuilt.specs.Dropped.{is_droppable, is_dropped};
-ghost use Rattle.oxt_tree.specs.View.{node_doc, part_doc};
+ghost use Rattle.oxt_unbuilt.specs.Dropped.{is_droppable, is_dropped, is_namespace_of_types};
+ghost use Rattle.oxt_tree.specs.View.{docs_in, node_doc, part_doc};
 
+use oxt_declares::types_alone::is_node_of_types;
 use oxt_grammar::category::Category;
 use oxt_grammar::kind::Kind;
 use oxt_tree::tree::{Node, Part};
 
 /// Whether the node is a declaration or an element of a class that stands for nothing at run time: by
-/// its kind, by `declare` or `type`, or for want of a body.
+/// its kind, by `declare` or `type`, for want of a body, or as a namespace of types alone.
 pub fn is_dropped(node: &Node) -> bool
     ensures { result ≡ is_dropped (node_doc node.now) }
 {
-    is_droppable(node.kind) && node.is_erased()
+    is_droppable(node.kind) && (node.is_erased() || is_namespace_of_types(node))
+}
+
+/// Whether the node is a block of a namespace that holds nothing but types.
+fn is_namespace_of_types(node: &Node) -> bool
+    ensures { result ≡ is_namespace_of_types node.now.kind (docs_in node.now.parts.items) }
+{
+    node.kind.is(Kind::TSNamespaceDeclaration) && is_node_of_types(node)
 }
 
 /// Whether the part is such a node.

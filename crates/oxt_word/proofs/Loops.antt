@@ -15,10 +15,10 @@ use Rattle.oxt_tree.specs.Doc.{Docs, no_docs, doc}
 use Rattle.oxt_tree.specs.Fields.{at_name}
 use Rattle.oxt_tree.specs.View.{docs_in, doc_of_part, part_doc}
 use Rattle.oxt_tree.specs.declared.tree.Part.{Part}
-use Rattle.oxt_put.proofs.Details.{row_at}
+use Rattle.oxt_forms.proofs.Details.{row_at}
 use Rattle.oxt_facts.specs.Entry.{Entry, lone}
-use Rattle.oxt_put.specs.Details.{is_read}
-use Rattle.oxt_put.specs.Leaves.{dropped}
+use Rattle.oxt_forms.specs.Details.{is_read}
+use Rattle.oxt_forms.specs.Leaves.{dropped}
 use Rattle.oxt_word.specs.Word.{said, each_said, turns_said, last_said, fields_said, field_said}
 use Rattle.oxt_facts.specs.declared.item.ItemKind.TheVariants as item
 use Rattle.oxt_word.specs.declared.way.Way.{Way}

@@ -9,7 +9,7 @@ use Rattle.oxt_names.specs.Constant.{Constant, integer, string}
 use Rattle.oxt_grammar.specs.declared.kind.Kind.TheVariants as kind
 use Rattle.oxt_tree.specs.Doc.{Doc, flag, number, text, Docs}
 use Rattle.oxt_tree.specs.Fields.{first}
-use Rattle.oxt_put.specs.Details.{start}
+use Rattle.oxt_forms.specs.Details.{start}
 use Rattle.oxt_word.specs.Node.{OneField}
 use Rattle.oxt_word.specs.declared.way.Way.{Way}
 use Rattle.oxt_word.specs.declared.way.Way.TheVariants as way

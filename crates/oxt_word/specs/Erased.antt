@@ -8,7 +8,7 @@ use Rattle.oxt_tree.specs.Syntax.{is_mere_declaration, lacks_body}
 use Rattle.oxt_facts.specs.Entry.{Entry, lone}
 use Rattle.oxt_facts.specs.declared.item.Binding.TheVariants as binding
 use Rattle.oxt_facts.specs.declared.item.ItemKind.TheVariants as item
-use Rattle.oxt_put.specs.Details.{start}
+use Rattle.oxt_forms.specs.Details.{start}
 use Rattle.oxt_word.specs.declared.rule.Rule.{Rule}
 use Rattle.oxt_word.specs.declared.rule.Rule.TheVariants as rule
 use Rattle.oxt_word.specs.declared.way.Way.{Way}
@@ -28,6 +28,7 @@ is_gone (rule.Binds binding.Import) k ds = is_text (codes "type") (named (codes 
 is_gone rule.ExportList k ds = is_text (codes "type") (named (codes "exportKind") k ds)
 is_gone rule.ExportPart k ds = is_text (codes "type") (named (codes "exportKind") k ds)
 is_gone rule.ExportDefault k ds = is_mere_declaration (named (codes "declaration") k ds)
+is_gone rule.ImportEquals k ds = is_text (codes "type") (named (codes "importKind") k ds)
 is_gone r k ds = false
 
 -- An erased statement is an empty block where it is the body of a loop or of an `if`, an absent part as its

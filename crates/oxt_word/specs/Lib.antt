@@ -1,7 +1,9 @@
 pub mod Enums
 pub mod Erased
+pub mod Modules
 pub mod Node
 pub mod RuleOf
+pub mod Namespaces
 pub mod Ways
 pub mod Whole
 pub mod Word

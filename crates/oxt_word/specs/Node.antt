@@ -2,7 +2,7 @@
 use Rattle.std.specs.Prelude.{ℕ, List, ◌++◌}
 use Rattle.oxt_facts.specs.Entry.{Entry, lone}
 use Rattle.oxt_facts.specs.declared.item.ItemKind.TheVariants as item
-use Rattle.oxt_put.specs.Details.{details, start}
+use Rattle.oxt_forms.specs.Details.{details, start}
 use Rattle.oxt_grammar.specs.Rows.{row_of}
 use Rattle.oxt_grammar.specs.declared.kind.Kind.{Kind}
 use Rattle.oxt_tree.specs.Doc.{Docs}

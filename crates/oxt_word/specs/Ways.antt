@@ -8,8 +8,9 @@ use Rattle.oxt_facts.specs.Entry.{Entry, detail, detailed, lone, spelled}
 use Rattle.oxt_facts.specs.Facts.{Known, is_made}
 use Rattle.oxt_forms.specs.Forms.{is_long}
 use Rattle.oxt_forms.specs.Made.{is_passing, is_quiet, passes_on}
-use Rattle.oxt_put.specs.Details.{start}
-use Rattle.oxt_put.specs.Leaves.{bind_word, in_word, number_word, private_word}
+use Rattle.oxt_forms.specs.Details.{start}
+use Rattle.oxt_forms.specs.Leaves.{bind_word, in_word, number_word, private_word}
+use Rattle.oxt_word.specs.Modules.{import_equals_word}
 use Rattle.oxt_word.specs.Node.{opened, OneField, AllFields}
 use Rattle.oxt_word.specs.Whole.{class_word, declarator_word, function_word, variables_word, whole_word}
 use Rattle.oxt_facts.specs.declared.item.Binding.{Binding}
@@ -42,6 +43,7 @@ abbrev pub exported_word : Known → Rule → Kind → ℕ → Docs → OneField
 exported_word f rule.Variables k i ds c fs = variables_word true k ds c fs
 exported_word f rule.FunctionDeclaration k i ds c fs = function_word true k ds c
 exported_word f rule.ClassDeclaration k i ds c fs = class_word true k ds c
+exported_word f rule.ImportEquals k i ds c fs = import_equals_word true k ds c
 exported_word f r k i ds c fs = whole_word f r k i ds c fs
 
 -- A function that is called where it stands is the entry with its parameter, its body and its end.

@@ -10,8 +10,9 @@ use Rattle.oxt_facts.specs.Facts.{Known, is_made}
 use Rattle.oxt_forms.specs.Forms.{within, is_put, is_long, is_found, is_found_made, is_called, binding_of}
 use Rattle.oxt_forms.specs.Made.{base_in, base_key, base_name, is_found_made_on, is_keep, is_silent}
 use Rattle.oxt_facts.specs.Inside.{stored_at}
-use Rattle.oxt_put.specs.Details.{start}
-use Rattle.oxt_put.specs.Leaves.{base_word, bind_word, dropped, hash_word, name_word, number_word, private_word}
+use Rattle.oxt_forms.specs.Details.{start}
+use Rattle.oxt_forms.specs.Leaves.{base_word, bind_word, dropped, name_word, number_word, private_word}
+use Rattle.oxt_word.specs.Modules.{export_assignment_word, export_list_word, import_equals_word, import_word, program_word, qualified_word, required_word}
 use Rattle.oxt_word.specs.Node.{opened, OneField, AllFields}
 use Rattle.oxt_facts.specs.declared.item.Binding.{Binding}
 use Rattle.oxt_facts.specs.declared.item.ItemKind.{ItemKind}
@@ -120,37 +121,16 @@ class_expression_word k ds c =
     opened k ds (c (codes "decorators") way.Whole
     ++ (c (codes "id") (way.Bound binding.Inner false) ++ class_parts c))
 
--- The program of a definition file does nothing.
-abbrev pub program_word : Known → Kind → Docs → AllFields → List Entry
-program_word f k ds fs =
-    if f.is_source && is_text (codes "dts") (named (codes "lang") k ds) then []
-    else hash_word (named (codes "hashbang") k ds) ++ fs way.Whole
-
 -- An erased statement as a branch of an `if` leaves an empty block, and as its alternate nothing.
 abbrev pub if_word : Kind → Docs → OneField → List Entry
 if_word k ds c =
     opened k ds (c (codes "test") way.Whole
     ++ (c (codes "consequent") way.Branch ++ c (codes "alternate") way.Alternate))
 
--- an import without its list
-abbrev pub listless_word : Kind → Docs → OneField → List Entry
-listless_word k ds c =
-    opened k ds (lone item.Nil ++ (c (codes "source") way.Whole ++ c (codes "withClause") way.Whole))
-
--- An import of an empty list is one without a list.
-abbrev pub import_word : Kind → Docs → OneField → AllFields → List Entry
-import_word k ds c fs =
-    if is_empty_list (named (codes "specifiers") k ds) then listless_word k ds c else opened k ds (fs way.Whole)
-
--- An export of an empty list does nothing.
-abbrev pub export_list_word : Kind → Docs → AllFields → List Entry
-export_list_word k ds fs =
-    if is_empty_list (named (codes "specifiers") k ds) then [] else opened k ds (fs way.Whole)
-
 -- what a node does
 abbrev pub whole_word : Known → Rule → Kind → ℕ → Docs → OneField → AllFields → List Entry
 whole_word f rule.Bare k i ds c fs = fs way.Whole
-whole_word f rule.Program k i ds c fs = program_word f k ds fs
+whole_word f rule.Program k i ds c fs = program_word f false k ds fs
 whole_word f rule.Parameters k i ds c fs = fs way.Whole
 whole_word f rule.Transparent k i ds c fs = c (codes "expression") way.Whole
 whole_word f rule.Erased k i ds c fs = []
@@ -181,4 +161,8 @@ whole_word f rule.Loop k i ds c fs = opened k ds (fs way.Branch)
 whole_word f rule.Import k i ds c fs = import_word k ds c fs
 whole_word f rule.Export k i ds c fs = c (codes "declaration") way.Exported
 whole_word f rule.ExportList k i ds c fs = export_list_word k ds fs
+whole_word f rule.ExportAssignment k i ds c fs = export_assignment_word c
+whole_word f rule.ImportEquals k i ds c fs = import_equals_word false k ds c
+whole_word f rule.Required k i ds c fs = required_word c
+whole_word f rule.Qualified k i ds c fs = qualified_word c
 whole_word f r k i ds c fs = opened k ds (fs way.Whole)

@@ -1,10 +1,10 @@
 -- The effect word of a document: what its code does, as a flat list of items.
-use Rattle.std.specs.Prelude.{ℕ, List, [], ◌∷◌, ◌++◌, if◌then◌else◌, Option, None, Some}
+use Rattle.std.specs.Prelude.{ℕ, List, [], ◌∷◌, ◌++◌, true, if◌then◌else◌, Option, None, Some}
 use Rattle.std.specs.Str.{bytes_eq}
 use Rattle.oxt_facts.specs.Facts.{Known, group_here}
 use Rattle.oxt_facts.specs.Groups.{numbered_groups}
 use Rattle.oxt_facts.specs.Inside.{inside}
-use Rattle.oxt_facts.specs.Told.{Telling, block, member, bare, inlined, gone, listless, told_of}
+use Rattle.oxt_facts.specs.Told.{Telling, block, member, bare, inlined, gone, listless, export, quasi, space, stored, strict, told_of}
 use Rattle.oxt_grammar.specs.Field.{Field}
 use Rattle.oxt_grammar.specs.Rows.{row_of}
 use Rattle.oxt_grammar.specs.declared.kind.Kind.{Kind}
@@ -13,14 +13,16 @@ use Rattle.oxt_tree.specs.View.{docs_in}
 use Rattle.oxt_tree.specs.declared.tree.Node.{Node}
 use Rattle.oxt_facts.specs.Entry.{Entry, lone}
 use Rattle.oxt_facts.specs.Tags.{numbered}
-use Rattle.oxt_put.specs.Details.{is_read}
-use Rattle.oxt_put.specs.Leaves.{dropped}
+use Rattle.oxt_forms.specs.Details.{is_read}
+use Rattle.oxt_forms.specs.Leaves.{dropped}
 use Rattle.oxt_word.specs.Node.{OneField, AllFields}
 use Rattle.oxt_word.specs.Enums.{bare_word, enum_word, inlined_word, is_exported, member_word}
 use Rattle.oxt_word.specs.Erased.{is_gone, gone_word}
+use Rattle.oxt_word.specs.Modules.{listless_word, program_word, quasi_word}
 use Rattle.oxt_word.specs.RuleOf.{rule_of}
+use Rattle.oxt_word.specs.Namespaces.{export_word, namespace_word, stored_word}
 use Rattle.oxt_word.specs.Ways.{target_word, bound_word, exported_word, entered_word, opened_word, passed_word, keyed_word, key_text, keys_word, statics_word, fields_word, methods_word, constructor_word}
-use Rattle.oxt_word.specs.Whole.{listless_word, whole_word}
+use Rattle.oxt_word.specs.Whole.{whole_word}
 use Rattle.oxt_facts.specs.declared.item.ItemKind.TheVariants as item
 use Rattle.oxt_word.specs.declared.rule.Rule.{Rule}
 use Rattle.oxt_word.specs.declared.way.Way.{Way}
@@ -56,6 +58,11 @@ told_word f (Some (bare e g)) w r k i ds c fs = bare_word e (group_here f g) w d
 told_word f (Some (inlined v)) w r k i ds c fs = inlined_word v w
 told_word f (Some gone) w r k i ds c fs = gone_word w
 told_word f (Some listless) w r k i ds c fs = listless_word k ds c
+told_word f (Some strict) w r k i ds c fs = program_word f true k ds fs
+told_word f (Some (quasi a b)) w r k i ds c fs = quasi_word a b
+told_word f (Some (space s)) w r k i ds c fs = namespace_word s (is_exported w) c
+told_word f (Some (export t ns)) w r k i ds c fs = export_word t ns c
+told_word f (Some (stored t n)) w r k i ds c fs = stored_word t n w c
 
 -- the same of the node of that number
 abbrev pub node_word : Known → Way → Rule → Kind → ℕ → Docs → OneField → AllFields → List Entry

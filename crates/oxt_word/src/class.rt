@@ -3,7 +3,7 @@ ghost use Rattle.std.specs.Prelude.{◌≡◌, ◌∷◌, [], ◌++◌, OnOk, co
 ghost use Rattle.oxt_tree.specs.Fields.{named};
 ghost use Rattle.oxt_tree.specs.View.{docs_in};
 ghost use Rattle.oxt_facts.specs.Entry.{detail, entries, lone};
-ghost use Rattle.oxt_put.specs.Details.{start};
+ghost use Rattle.oxt_forms.specs.Details.{start};
 ghost use Rattle.oxt_word.specs.Ways.{block_word, constructor_word, field_word, fields_word, key_text, keyed_word, keys_word, method_word, methods_word, opened_word, passed_word, statics_word};
 ghost use Rattle.oxt_word.specs.Whole.{class_expression_word, class_parts, class_word};
 ghost use Rattle.oxt_word.specs.Word.{all_fields, each_field};
@@ -16,10 +16,10 @@ use oxt_facts::item::{Binding, Item, ItemKind};
 use oxt_forms::forms::is_long;
 use oxt_forms::made::is_quiet;
 use oxt_forms::passing::{is_passing, passes_on};
-use oxt_grammar::field::Field;
-use oxt_put::put::{
+use oxt_forms::put::{
     field_atom, put_field_start, put_first, put_lone, put_number, put_open, put_private, put_start,
 };
+use oxt_grammar::field::Field;
 use oxt_tree::ids::OutOfMemory;
 use oxt_tree::tree::Node;
 use std::vec;

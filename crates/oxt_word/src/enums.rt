@@ -8,7 +8,7 @@ ghost use Rattle.oxt_tree.specs.Doc.{flag, text};
 ghost use Rattle.oxt_tree.specs.Names.{name_bytes};
 ghost use Rattle.oxt_tree.specs.View.{docs_in};
 ghost use Rattle.oxt_word.specs.Enums.{bare_word, block_binding, enum_word, filling_word, following_word, inlined_word, is_exported, is_key, is_var, literal_word, member_word, number_literal, object_of, owner_word, put_word, read_word, return_word, use_word, value_word};
-ghost use Rattle.oxt_put.specs.Details.{start};
+ghost use Rattle.oxt_forms.specs.Details.{start};
 ghost use Rattle.oxt_word.specs.Word.{each_field};
 
 use crate::way::Way;
@@ -16,10 +16,10 @@ use crate::word::put_field;
 use oxt_facts::facts::Facts;
 use oxt_facts::item::{Atom, Binding, Item, ItemKind};
 use oxt_facts::told::{MemberValue, ToldBlock, ToldMember};
+use oxt_forms::put::{first_atom, put_lone, put_owned, put_spelled, put_start};
 use oxt_grammar::field::Field;
 use oxt_grammar::kind::Kind;
 use oxt_names::constant::ConstantValue;
-use oxt_put::put::{first_atom, put_lone, put_owned, put_spelled, put_start};
 use oxt_tree::ids::OutOfMemory;
 use oxt_tree::name::Name;
 use oxt_tree::tree::Node;
@@ -157,7 +157,7 @@ fn put_operation(
 }
 
 /// Puts the use of the name, which means that group.
-fn put_use(
+pub(crate) fn put_use(
     alloc: Global,
     name: &Name,
     group: Option<u64>,
@@ -219,7 +219,7 @@ fn put_value_put(
 }
 
 /// Puts a text.
-fn put_text(alloc: Global, name: &Name, out: &mut Vec<Item>) -> Result<(), OutOfMemory>
+pub(crate) fn put_text(alloc: Global, name: &Name, out: &mut Vec<Item>) -> Result<(), OutOfMemory>
     ensures { OnOk result (entries out.new.items
         ≡ entries out.old.items ++ spelled ItemKind.Str (text (name_bytes name.now))) }
 {

@@ -5,14 +5,14 @@ ghost use Rattle.oxt_tree.specs.Fields.{named};
 ghost use Rattle.oxt_tree.specs.Syntax.{is_mere_declaration};
 ghost use Rattle.oxt_tree.specs.View.{docs_in};
 ghost use Rattle.oxt_word.specs.Erased.{gone_word, is_gone};
-ghost use Rattle.oxt_put.specs.Details.{start};
+ghost use Rattle.oxt_forms.specs.Details.{start};
 
 use crate::rule::Rule;
 use crate::way::Way;
 use oxt_facts::item::{Binding, Item, ItemKind};
+use oxt_forms::put::{put_lone, put_start};
 use oxt_grammar::field::Field;
 use oxt_grammar::kind::Kind;
-use oxt_put::put::{put_lone, put_start};
 use oxt_tree::ids::OutOfMemory;
 use oxt_tree::tree::Node;
 use std::alloc::Global;
@@ -34,6 +34,7 @@ pub fn is_gone(rule: Rule, node: &Node) -> bool
         Rule::ExportList => node.holds_text(Field::ExportKind, "type"),
         Rule::ExportPart => node.holds_text(Field::ExportKind, "type"),
         Rule::ExportDefault => has_erased_default(node),
+        Rule::ImportEquals => node.holds_text(Field::ImportKind, "type"),
         _ => false,
     }
 }

@@ -4,6 +4,8 @@
 mod class;
 mod enums;
 mod gone;
+mod modules;
+mod namespaces;
 pub mod rule;
 pub mod rule_of;
 pub mod way;

@@ -93,4 +93,12 @@ pub enum Rule {
     ExportPart,
     /// The export of a default.
     ExportDefault,
+    /// `export = e`.
+    ExportAssignment,
+    /// `import a = ..`.
+    ImportEquals,
+    /// `require("m")`, as what such an import imports.
+    Required,
+    /// `a.b`, as the same.
+    Qualified,
 }

@@ -3,12 +3,12 @@ ghost use Rattle.std.specs.Prelude.{◌≡◌, [], ◌++◌, IfOk, OnOk, codes, 
 ghost use Rattle.oxt_grammar.specs.Field.{row_view};
 ghost use Rattle.oxt_tree.specs.View.{docs_in, node_doc, part_doc};
 ghost use Rattle.oxt_facts.specs.Entry.{entries};
-ghost use Rattle.oxt_put.specs.Details.{is_read};
-ghost use Rattle.oxt_put.specs.Leaves.{dropped};
+ghost use Rattle.oxt_forms.specs.Details.{is_read};
+ghost use Rattle.oxt_forms.specs.Leaves.{dropped};
 ghost use Rattle.oxt_word.specs.Node.{opened};
 ghost use Rattle.oxt_word.specs.RuleOf.{rule_of};
 ghost use Rattle.oxt_word.specs.Ways.{bound_word, entered_word, exported_word, target_word};
-ghost use Rattle.oxt_word.specs.Whole.{arrow_word, assignment_word, body_word, call_word, declarator_word, export_list_word, function_word, get_word, if_word, import_word, listless_word, logical_word, object_word, sequence_word, variables_word, whole_word};
+ghost use Rattle.oxt_word.specs.Whole.{arrow_word, assignment_word, body_word, call_word, declarator_word, function_word, get_word, if_word, logical_word, object_word, sequence_word, variables_word, whole_word};
 ghost use Rattle.oxt_word.specs.Word.{all_fields, each_field, each_said, fields_said, last_said, list_word, node_word, own_word, said, turns_said, way_word, word};
 ghost use Rattle.oxt_grammar.specs.Keys.{key_of};
 
@@ -18,6 +18,11 @@ use crate::class::{
 };
 use crate::enums::{is_exported, put_bare, put_enum, put_inlined, put_member};
 use crate::gone::{is_gone, put_gone};
+use crate::modules::{
+    put_export_assignment, put_export_list, put_import, put_import_equals, put_listless,
+    put_program, put_qualified, put_quasi, put_required,
+};
+use crate::namespaces::{put_export, put_namespace, put_stored};
 use crate::rule::Rule;
 use crate::rule_of::rule_of;
 use crate::way::Way;
@@ -32,13 +37,13 @@ use oxt_forms::forms::{
     binding_of, is_called, is_found, is_found_made, is_long, is_put, lists_nothing,
 };
 use oxt_forms::made::{is_keep, is_silent};
+use oxt_forms::put::{
+    is_read, put_base, put_bind, put_dropped, put_first, put_in, put_lone, put_name, put_number,
+    put_open, put_private, put_spelled, put_start, target_atom,
+};
 use oxt_grammar::field::Field;
 use oxt_grammar::holds::Row;
 use oxt_grammar::kind::Kind;
-use oxt_put::put::{
-    is_read, put_base, put_bind, put_dropped, put_first, put_hash, put_in, put_lone, put_name,
-    put_number, put_open, put_private, put_spelled, put_start, target_atom,
-};
 use oxt_tree::fields::place_of;
 use oxt_tree::ids::OutOfMemory;
 use oxt_tree::tree::{Node, Part};
@@ -88,6 +93,11 @@ fn put_known(facts: &Facts, node: &Node, way: Way, out: &mut Vec<Item>) -> Resul
         Some(Told::Inlined(constant)) => put_inlined(facts.memory(), constant, way, out),
         Some(Told::Gone) => put_gone(facts.memory(), way, out),
         Some(Told::Listless) => put_listless(facts, node, out),
+        Some(Told::Strict) => put_program(facts, true, node, out),
+        Some(Told::Quasi(quasi)) => put_quasi(facts.memory(), quasi, out),
+        Some(Told::Namespace(block)) => put_namespace(facts, block, is_exported(way), node, out),
+        Some(Told::Export(export)) => put_export(facts, export, node, out),
+        Some(Told::Stored(stored)) => put_stored(facts, stored, way, node, out),
     }
 }
 
@@ -199,7 +209,7 @@ fn put_turns(
 
 /// Puts what the part does, which is dropped or else read that way.
 #[cycle(word)]
-#[tactic(auto, using(oxt_put::proofs::Drops::behind))]
+#[tactic(auto, using(oxt_forms::proofs::Drops::behind))]
 fn put_turn(
     facts: &Facts,
     part: &Part,
@@ -327,7 +337,7 @@ pub(crate) fn put_whole(
 {
     match rule {
         Rule::Bare => put_fields(facts, node.kind.rows(), &node.parts, Way::Whole, out),
-        Rule::Program => put_program(facts, node, out),
+        Rule::Program => put_program(facts, false, node, out),
         Rule::Parameters => put_fields(facts, node.kind.rows(), &node.parts, Way::Whole, out),
         Rule::Transparent => put_field(facts, node, Field::Expression, Way::Whole, out),
         Rule::Erased => Ok(()),
@@ -358,27 +368,17 @@ pub(crate) fn put_whole(
         Rule::Import => put_import(facts, node, out),
         Rule::Export => put_field(facts, node, Field::Declaration, Way::Exported, out),
         Rule::ExportList => put_export_list(facts, node, out),
+        Rule::ExportAssignment => put_export_assignment(facts, node, out),
+        Rule::ImportEquals => put_import_equals(facts, false, node, out),
+        Rule::Required => put_required(facts, node, out),
+        Rule::Qualified => put_qualified(facts, node, out),
         _ => put_plain(facts, node, Way::Whole, out),
     }
 }
 
-/// Puts a program: its first line for the system, and its fields. That of a definition file does nothing.
-#[cycle(word)]
-fn put_program(facts: &Facts, node: &Node, out: &mut Vec<Item>) -> Result<(), OutOfMemory>
-    ensures { OnOk result (entries out.new.items
-        ≡ entries out.old.items ++ whole_word facts.now Rule.Program node.now.kind node.now.id.0
-        (docs_in node.now.parts.items) (each_field facts.now node.now) (all_fields facts.now node.now)) }
-{
-    if facts.is_source() && node.holds_text(Field::Lang, "dts") {
-        return Ok(());
-    }
-    put_hash(facts.memory(), node, out)?;
-    put_fields(facts, node.kind.rows(), &node.parts, Way::Whole, out)
-}
-
 /// Puts a statement that drops a value.
 #[cycle(word)]
-#[tactic(auto, using(oxt_put::proofs::Drops::behind))]
+#[tactic(auto, using(oxt_forms::proofs::Drops::behind))]
 fn put_statement(facts: &Facts, node: &Node, out: &mut Vec<Item>) -> Result<(), OutOfMemory>
     ensures { OnOk result (entries out.new.items
         ≡ entries out.old.items ++ whole_word facts.now Rule.Statement node.now.kind node.now.id.0
@@ -611,46 +611,6 @@ fn put_if(facts: &Facts, node: &Node, out: &mut Vec<Item>) -> Result<(), OutOfMe
     put_lone(facts.memory(), ItemKind::Close, out)
 }
 
-/// Puts an import.
-#[cycle(word)]
-fn put_import(facts: &Facts, node: &Node, out: &mut Vec<Item>) -> Result<(), OutOfMemory>
-    ensures { OnOk result (entries out.new.items
-        ≡ entries out.old.items ++ import_word node.now.kind (docs_in node.now.parts.items)
-        (each_field facts.now node.now) (all_fields facts.now node.now)) }
-{
-    if lists_nothing(node, Field::Specifiers) {
-        return put_listless(facts, node, out);
-    }
-    put_plain(facts, node, Way::Whole, out)
-}
-
-/// Puts an import as one without a list.
-#[cycle(word)]
-fn put_listless(facts: &Facts, node: &Node, out: &mut Vec<Item>) -> Result<(), OutOfMemory>
-    ensures { OnOk result (entries out.new.items
-        ≡ entries out.old.items ++ listless_word node.now.kind (docs_in node.now.parts.items)
-        (each_field facts.now node.now)) }
-{
-    put_open(facts.memory(), node, out)?;
-    put_lone(facts.memory(), ItemKind::Nil, out)?;
-    put_field(facts, node, Field::Source, Way::Whole, out)?;
-    put_field(facts, node, Field::WithClause, Way::Whole, out)?;
-    put_lone(facts.memory(), ItemKind::Close, out)
-}
-
-/// Puts an export of a list of names.
-#[cycle(word)]
-fn put_export_list(facts: &Facts, node: &Node, out: &mut Vec<Item>) -> Result<(), OutOfMemory>
-    ensures { OnOk result (entries out.new.items
-        ≡ entries out.old.items ++ export_list_word node.now.kind (docs_in node.now.parts.items)
-        (all_fields facts.now node.now)) }
-{
-    if lists_nothing(node, Field::Specifiers) {
-        return Ok(());
-    }
-    put_plain(facts, node, Way::Whole, out)
-}
-
 /// Puts a declaration that is exported.
 #[cycle(word)]
 fn put_exported(
@@ -667,6 +627,7 @@ fn put_exported(
         Rule::Variables => put_variables(facts, true, node, out),
         Rule::FunctionDeclaration => put_function(facts, true, node, out),
         Rule::ClassDeclaration => put_class(facts, true, node, out),
+        Rule::ImportEquals => put_import_equals(facts, true, node, out),
         _ => put_whole(facts, rule, node, out),
     }
 }

@@ -32,7 +32,8 @@ export function parse(source, options = {}) {
 /**
  * The tree, with what else the parser knows of the source.
  *
- * @returns {{ tree: object, isModule: boolean }} `isModule` tells whether it has imports, exports or `import.meta`
+ * @returns {{ tree: object, isModule: boolean }} `isModule` tells whether it has imports, exports or `import.meta`, and none
+ * of those that are CommonJS's own
  */
 export function parseFile(source, { filename = "source.ts", sourceType, parser } = {}) {
   if (typeof source !== "string") throw new OxtOptionError("the source has to be a text");
@@ -44,7 +45,7 @@ export function parseFile(source, { filename = "source.ts", sourceType, parser }
   const src = new Source(ts, file, filename);
   refuseFaults(src);
   try {
-    return { tree: program(src, sourceType ?? sourceTypeOf(filename)), isModule: ts.isExternalModule(file) };
+    return { tree: program(src, sourceType ?? sourceTypeOf(filename)), isModule: ts.isExternalModule(file) && !isCommonJs(src) };
   } catch (error) {
     // The stack of the process ends some thousand levels deep, far behind what the program takes.
     if (error instanceof RangeError) throw new OxtSyntaxError("the source nests too deep", new Position(filename, 1, 1, 0));
@@ -97,6 +98,15 @@ const sourceTypeOf = (filename) => (/\.c[jt]s$/i.test(filename) ? "script" : "mo
 function langOf(filename) {
   if (isDefinitions(filename)) return "dts";
   return /\.[cm]?jsx?$/i.test(filename) ? "js" : undefined;
+}
+
+/** Whether the source has `import a = require("m")` or `export =`, for which only CommonJS has the words. */
+function isCommonJs(src) {
+  return src.file.statements.some(
+    (node) =>
+      (src.is(node, "ExportAssignment") && node.isExportEquals) ||
+      (src.is(node, "ImportEqualsDeclaration") && !node.isTypeOnly && src.is(node.moduleReference, "ExternalModuleReference")),
+  );
 }
 
 function program(src, sourceType) {

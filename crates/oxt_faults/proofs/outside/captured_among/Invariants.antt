@@ -2,10 +2,11 @@
 use Rattle.std.proofs.Common.{◌-◌, length}
 use Rattle.oxt_faults.specs.Captured.{is_captured}
 use Rattle.oxt_faults.proofs.Symbols.{IsNoted}
+use Rattle.oxt_options.specs.Facts.{is_in}
 use Rattle.oxt_faults.proofs.outside.captured_among.Given as goal
 
 abbrev pub decreases-loop-marks : goal.decreases-loop-marks
 decreases-loop-marks l = length l.scoping.symbols - length l.marks.items
 
 abbrev pub invariant-loop-marks : goal.invariant-loop-marks
-invariant-loop-marks l = IsNoted (is_captured l.scoping) l.scoping.symbols l.marks.items
+invariant-loop-marks l = IsNoted (is_captured l.scoping (is_in l.left_out)) l.scoping.symbols l.marks.items

@@ -5,4 +5,4 @@ use Rattle.oxt_tree.specs.View.{docs_in}
 use Rattle.oxt_told.proofs.told.+tell.Given as goal
 
 abbrev pub invariant-tell_in_each-loop-part : goal.invariant-tell_in_each-loop-part
-invariant-tell_in_each-loop-part l = all_told l.initial.told (told_in_each l.scoping (asked_of l.plan) (docs_in l.parts)) ≡ all_told l.told (told_in_each l.scoping (asked_of l.plan) (docs_in (drop l.part-index l.parts)))
+invariant-tell_in_each-loop-part l = all_told l.initial.told (told_in_each l.source.scoping.now (asked_of l.source.plan.now) l.source.mode l.seat (docs_in l.parts)) ≡ all_told l.told (told_in_each l.source.scoping.now (asked_of l.source.plan.now) l.source.mode l.seat (docs_in (drop l.part-index l.parts)))

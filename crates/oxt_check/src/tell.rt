@@ -1,0 +1,207 @@
+//! Collects what the writer of a program is told, in the order of the text.
+ghost use Rattle.std.specs.Prelude.{◌≡◌, ◌++◌, map, OnOk};
+ghost use Rattle.oxt_grammar.specs.Field.{row_view};
+ghost use Rattle.oxt_check.specs.Diagnostics.{found_at, told_among, told_below, told_if, told_in, told_of_code, told_of_module, told_of_namespace, wrapper_stays};
+ghost use Rattle.oxt_options.specs.Facts.{is_in};
+ghost use Rattle.oxt_options.specs.Options.{transform_view};
+ghost use Rattle.oxt_tree.specs.View.{docs_in, node_doc, part_doc};
+
+use crate::seat::Seat;
+use crate::sight::{Sight, is_changing, is_nested_module};
+use crate::wrapped::is_wrapped_target;
+use oxt_grammar::holds::{Holds, Row};
+use oxt_tree::diagnostic::{DiagnosticKind, OxcDiagnostic};
+use oxt_tree::ids::OutOfMemory;
+use oxt_tree::tree::{Node, Part};
+use oxt_unbuilt::dropped::is_dropped;
+
+/// Appends what is told of the node, which stands in that seat and where a field holds `holds`, and then of those in it.
+#[cycle(tell)]
+pub fn tell_of_node(
+    told: &mut Vec<OxcDiagnostic>,
+    sight: &Sight<'_>,
+    node: &Node,
+    seat: Seat,
+    holds: Holds,
+) -> Result<(), OutOfMemory>
+    ensures { OnOk result (told.new.items ≡ told.old.items
+        ++ told_in (node_doc node.now) (is_in sight.now.plan.now.kept) (transform_view sight.now.options.now) seat holds) }
+{
+    tell_of_namespace(told, sight, node, seat)?;
+    if is_dropped(node) {
+        return Ok(());
+    }
+    tell_of_code(told, sight, node, holds)?;
+    tell_of_fields(
+        told,
+        sight,
+        &node.parts,
+        seat.inside(node),
+        node.kind.rows(),
+    )
+}
+
+/// Appends what is told of the part.
+#[cycle(tell)]
+fn tell_of_part(
+    told: &mut Vec<OxcDiagnostic>,
+    sight: &Sight<'_>,
+    part: &Part,
+    seat: Seat,
+    holds: Holds,
+) -> Result<(), OutOfMemory>
+    ensures { OnOk result (told.new.items ≡ told.old.items
+        ++ told_in (part_doc part.now) (is_in sight.now.plan.now.kept) (transform_view sight.now.options.now) seat holds) }
+{
+    match part {
+        Part::Node(node) => tell_of_node(told, sight, node, seat, holds),
+        Part::List(parts) => tell_of_each(told, sight, parts, seat, holds),
+        _ => Ok(()),
+    }
+}
+
+/// Appends what is told of the elements of a list.
+#[cycle(tell)]
+#[tactic(auto, using(crate::proofs::Tellings::each_steps))]
+fn tell_of_each(
+    told: &mut Vec<OxcDiagnostic>,
+    sight: &Sight<'_>,
+    parts: &[Part],
+    seat: Seat,
+    holds: Holds,
+) -> Result<(), OutOfMemory>
+    ensures { OnOk result (told.new.items ≡ told.old.items
+        ++ told_among (docs_in parts.now) (is_in sight.now.plan.now.kept) (transform_view sight.now.options.now) seat holds) }
+{
+    for part in parts {
+        tell_of_part(told, sight, part, seat, holds)?;
+    }
+    Ok(())
+}
+
+/// Appends what is told of what the fields of a node with these rows hold.
+#[cycle(tell)]
+#[tactic(auto, using(crate::proofs::Tellings::field_steps))]
+fn tell_of_fields(
+    told: &mut Vec<OxcDiagnostic>,
+    sight: &Sight<'_>,
+    parts: &[Part],
+    seat: Seat,
+    rows: &[Row],
+) -> Result<(), OutOfMemory>
+    ensures { OnOk result (told.new.items ≡ told.old.items
+        ++ told_below (docs_in parts.now) (is_in sight.now.plan.now.kept) (transform_view sight.now.options.now) seat
+        (map row_view rows.now)) }
+{
+    for (i, part) in parts.iter().enumerate() {
+        match rows.get(i) {
+            Some(row) => tell_of_part(told, sight, part, seat, row.holds)?,
+            None => return Ok(()),
+        }
+    }
+    Ok(())
+}
+
+/// Appends what is told of the node itself for the sake of namespaces.
+fn tell_of_namespace(
+    told: &mut Vec<OxcDiagnostic>,
+    sight: &Sight<'_>,
+    node: &Node,
+    seat: Seat,
+) -> Result<(), OutOfMemory>
+    ensures { OnOk result (told.new.items ≡ told.old.items
+        ++ told_of_namespace (transform_view sight.now.options.now) seat node.now.kind node.now.span.start node.now.span.end
+        (docs_in node.now.parts.items)) }
+{
+    let is_unsupported = sight.is_unsupported(seat, node);
+    tell_if(
+        told,
+        is_unsupported,
+        found_at(DiagnosticKind::NamespaceNotSupported, node),
+    )?;
+    let is_nested = is_nested_module(seat, node);
+    tell_if(
+        told,
+        is_nested,
+        found_at(DiagnosticKind::AmbientModuleNested, node),
+    )?;
+    let is_changing = is_changing(seat, node.kind);
+    tell_if(
+        told,
+        is_changing,
+        found_at(DiagnosticKind::NamespaceExportingNonConst, node),
+    )
+}
+
+/// Appends what is told of the node itself, which is no erased code.
+fn tell_of_code(
+    told: &mut Vec<OxcDiagnostic>,
+    sight: &Sight<'_>,
+    node: &Node,
+    holds: Holds,
+) -> Result<(), OutOfMemory>
+    ensures { OnOk result (told.new.items ≡ told.old.items
+        ++ told_of_code (is_in sight.now.plan.now.kept) (transform_view sight.now.options.now) holds node.now.kind node.now.id.0
+        node.now.span.start node.now.span.end (docs_in node.now.parts.items)) }
+{
+    tell_of_module(told, sight, node)?;
+    tell_if(told, is_wrapped_target(holds, node), wrapper_stays())
+}
+
+/// Appends what is told of the node as a form that ECMAScript modules have not.
+fn tell_of_module(
+    told: &mut Vec<OxcDiagnostic>,
+    sight: &Sight<'_>,
+    node: &Node,
+) -> Result<(), OutOfMemory>
+    ensures { OnOk result (told.new.items ≡ told.old.items
+        ++ told_of_module (is_in sight.now.plan.now.kept) (transform_view sight.now.options.now) node.now.kind node.now.id.0
+        node.now.span.start node.now.span.end (docs_in node.now.parts.items)) }
+{
+    let is_import = sight.is_import_in_esm(node);
+    tell_if(
+        told,
+        is_import,
+        found_at(DiagnosticKind::ImportEqualsInEsm, node),
+    )?;
+    let is_export = sight.is_export_in_esm(node);
+    tell_if(
+        told,
+        is_export,
+        found_at(DiagnosticKind::ExportAssignmentInEsm, node),
+    )
+}
+
+/// Appends the diagnostic, where that is so.
+fn tell_if(
+    told: &mut Vec<OxcDiagnostic>,
+    is_so: bool,
+    diagnostic: OxcDiagnostic,
+) -> Result<(), OutOfMemory>
+    ensures { OnOk result (told.new.items ≡ told.old.items ++ told_if is_so diagnostic) }
+{
+    if is_so {
+        told.push(diagnostic)?;
+    }
+    Ok(())
+}
+
+/// A diagnostic of that kind at the place of the node.
+fn found_at(kind: DiagnosticKind, node: &Node) -> OxcDiagnostic
+    ensures { result ≡ found_at kind node.now.span.start node.now.span.end }
+{
+    OxcDiagnostic {
+        kind,
+        span: Some(node.span),
+    }
+}
+
+/// That syntax of types stays around a target.
+fn wrapper_stays() -> OxcDiagnostic
+    ensures { result ≡ wrapper_stays }
+{
+    OxcDiagnostic {
+        kind: DiagnosticKind::AssignmentTarget,
+        span: None,
+    }
+}

@@ -1,0 +1,62 @@
+//! The first word at the level of the statements of a namespace.
+ghost use Rattle.std.specs.Prelude.{◌≡◌, option_map};
+ghost use Rattle.oxt_faults.specs.Level.{LevelWordAt, found_view};
+ghost use Rattle.oxt_faults.specs.Namespaces.{namespace_word, sought};
+ghost use Rattle.oxt_tree.specs.View.{node_doc};
+
+use crate::level::{FoundWord, first_level_word_at};
+use oxt_grammar::field::Field;
+use oxt_grammar::holds::Row;
+use oxt_grammar::kind::Kind;
+use oxt_search::first::first_in;
+use oxt_search::search::{Inside, Search, Visit};
+use oxt_tree::tree::Node;
+use oxt_unbuilt::dropped::is_dropped;
+
+/// The first word in the program, outside what is erased, that stands at the level of the statements of a namespace: they
+/// go into a function, where the word would mean something else. What stands at the level of a namespace inside another
+/// stands at the level of the outer one too.
+pub fn first_namespace_word(program: &Node) -> Option<FoundWord>
+    ensures { option_map found_view result ≡ namespace_word (node_doc program.now) }
+{
+    first_in(&Namespaces, program, ())
+}
+
+/// The search for the outermost namespaces, and for the first word of each.
+#[derive(Clone, Copy)]
+struct Namespaces;
+
+impl Search for Namespaces {
+    type State = ();
+
+    type Found = FoundWord;
+
+    ghost Seen = { LevelWordAt };
+
+    ghost view = { found_view };
+
+    ghost sought = { λ _. sought };
+
+    fn visit(&self, node: &Node, _state: ()) -> Visit<FoundWord, ()> {
+        if is_dropped(node) {
+            Visit {
+                found: None,
+                inside: Inside::Skipped,
+            }
+        } else if node.kind.is(Kind::TSModuleBlock) {
+            Visit {
+                found: first_level_word_at(node.field(Field::Body)),
+                inside: Inside::Skipped,
+            }
+        } else {
+            Visit {
+                found: None,
+                inside: Inside::Alike(()),
+            }
+        }
+    }
+
+    fn in_field(&self, _state: (), _kind: Kind, _row: &Row) -> Option<()> {
+        Some(())
+    }
+}
