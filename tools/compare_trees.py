@@ -6,8 +6,7 @@
 
 ORACLE is the folder of the reading, a Python package `oxtref` that is no part of this repository. OXT is the built
 program `oxt`. `--flags="WORD .."` gives both of them these flags, and `--some-flags` gives them for each tree some of the
-flags, by its name. Trees with a form that is not built yet are counted and passed over; a tree that is not
-certified differs.
+flags, by its name. A tree that is not certified differs.
 Prints a line for each tree that differs, then the counts. The status is 1 if there is a difference, and else 0.
 """
 import argparse
@@ -18,7 +17,10 @@ import sys
 import trees
 from trees import Differences, words_and_cases
 
-FLAGS = ("--only-remove-type-imports", "--optimize-enums", "--optimize-const-enums", "--no-namespaces")
+FLAGS = (
+    "--only-remove-type-imports", "--optimize-enums", "--optimize-const-enums", "--no-namespaces", "--set-public-class-fields",
+    "--no-declare-fields", "--remove-empty-fields",
+)
 # Flags with a value, with those that are tried.
 CHOICES = {"--module": ("commonjs", "esm"), "--rewrite-extensions": ("rewrite", "remove")}
 
@@ -67,9 +69,6 @@ def main():
     for name, text in cases:
         flags = flags_of(name)
         found = answer([program, *flags], text)
-        if found[2].startswith(b"unbuilt "):
-            differences.add(unbuilt=1)
-            continue
         wanted = reading.answer(flags, text)
         differences.add(**{"lowered" if found[0] in (0, 1) else "refused": 1})
         if found != wanted:

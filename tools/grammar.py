@@ -22,7 +22,7 @@ class Grammar:
     def __init__(self, text):
         self.words, self.categories, self.kinds = {}, {}, {}
         self.conditions, self.settings, self.rules, self.roles = {}, {}, {}, {}
-        self.typescript, self.typescript_of, self.unbuilt = set(), set(), set()
+        self.typescript, self.typescript_of = set(), set()
         for line in text.splitlines():
             self.take(line.split("#")[0].strip())
         for kind, fields in self.kinds.items():
@@ -53,8 +53,6 @@ class Grammar:
         elif first == "role":
             role, kinds = rest.split(" = ")
             self.roles |= {k: role for k in kinds.split()}
-        elif first == "unbuilt":
-            self.unbuilt |= set(rest.split())
         elif first == "typescript":
             names, _, kinds = rest.partition(" of ")
             for name in names.split():
@@ -575,33 +573,6 @@ def match_on_kind(arms, rest=None):
     return "{\n    match kind {\n" + "\n".join(lines) + "\n    }\n}\n"
 
 
-def unbuilt_source(g):
-    arms = [(k, "true" if k in g.unbuilt else "false") for k in g.kinds]
-    return f"""// {NOTE}
-ghost use Rattle.std.specs.Prelude.{{◌≡◌}};
-ghost use Rattle.oxt_unbuilt.specs.UnbuiltKinds.{{is_unbuilt_kind}};
-
-use oxt_grammar::kind::Kind;
-
-/// Whether no node of the kind is transformed yet.
-pub fn is_unbuilt(kind: Kind) -> bool
-    ensures {{ result ≡ is_unbuilt_kind kind }}
-{match_on_kind(arms)}"""
-
-
-def unbuilt_spec(g):
-    kinds = "\n".join(f"is_unbuilt_kind {k} = {'true' if k in g.unbuilt else 'false'}" for k in g.kinds)
-    return f"""-- {NOTE}
-use Rattle.std.specs.Prelude.{{Bool, true, false}}
-use Rattle.oxt_grammar.specs.declared.kind.Kind.{{Kind}}
-use Rattle.oxt_grammar.specs.declared.kind.Kind.TheVariants.{{{", ".join(g.kinds)}}}
-
--- no node of the kind is transformed yet
-abbrev pub is_unbuilt_kind : Kind → Bool
-{kinds}
-"""
-
-
 def rule_term(rule, spec):
     """A rule such as `Spelled Str`, whose argument is a kind of items, a binding or a flag."""
     name, _, argument = rule.partition(" ")
@@ -885,8 +856,6 @@ def main():
         "crates/oxt_json_write/src/order.rt": order_source(g),
         "crates/oxt_json_write/specs/Order.antt": order_spec(g),
         "crates/oxt_json_write/proofs/InOrder.antt": order_proof(g),
-        "crates/oxt_unbuilt/src/unbuilt_kinds.rt": unbuilt_source(g),
-        "crates/oxt_unbuilt/specs/UnbuiltKinds.antt": unbuilt_spec(g),
         "crates/oxt_declares/src/role_of.rt": roles_source(g),
         "crates/oxt_declares/specs/RoleOf.antt": roles_spec(g),
         "crates/oxt_word/src/rule_of.rt": word_rules_source(g),

@@ -3,10 +3,11 @@ tree: each has to end in `uncertified`, with nothing written. Nothing is proved 
 
     python3 tools/plant.py
 
-The number of the bug is where the program's span starts, so that one build serves for all; 0 plants none. Bugs of the pass
+The number of the bug is where the program's span starts, so that one program serves for all; 0 plants none. Bugs of the pass
 that erases types stand in place of one of its hooks, on examples/forms.json. Those of the other passes leave out one of their
 hooks, or put something else at one place of what they have made: for enums on examples/enums.json, for namespaces, modules
-and the extensions in their names on examples/namespaces.json."""
+and the extensions in their names on examples/namespaces.json, for classes on examples/fields.json, where fields move and empty ones
+go, where empty ones go, and where all stay."""
 import json
 import re
 import shutil
@@ -16,9 +17,11 @@ import tempfile
 from pathlib import Path
 
 TOP = Path(__file__).resolve().parent.parent
-FLAGS = ["--optimize-enums", "--optimize-const-enums", "--module=commonjs", "--rewrite-extensions=rewrite"]
+FLAGS = ("--optimize-enums", "--optimize-const-enums", "--module=commonjs", "--rewrite-extensions=rewrite")
+MOVED, DROPPED = ("--set-public-class-fields", "--remove-empty-fields"), ("--remove-empty-fields",)
 ENUMS, NAMESPACES = "crates/oxt_lower/src/pass.rt", "crates/oxt_lower/src/namespace.rt"
 MODULES, EXTENSIONS = "crates/oxt_erase/src/module.rt", "crates/oxt_erase/src/extensions.rt"
+CLASSES = "crates/oxt_class/src/pass.rt"
 NOTHING = "{}"
 GONE = "Part::List(Vec::new(*node.parts.allocator()))"
 
@@ -153,6 +156,74 @@ MODULE_BUGS = [
     ("directives", "without_first(old)"),
 ]
 
+# The elements of a class where fields move and empty ones go, the statements of its constructor, the expressions that became the
+# key of its getter, and the elements of a class whose constructor is made, with its statements.
+MEMBERS, MADE = "body.5.body.body", "body.6.body.body"
+IN_CONSTRUCTOR, IN_MADE = f"{MEMBERS}.5.value.body.statements", f"{MADE}.0.value.body.statements"
+KEYS = f"{MEMBERS}.6.key.expressions"
+
+# Bugs where fields move: the hook of the pass, and places in what it has made.
+MOVED_BUGS = [
+    (CLASSES, "EnterClass"),
+    (IN_CONSTRUCTOR, "swapped(old, 1)?"),
+    (IN_CONSTRUCTOR, "swapped(old, 3)?"),
+    (IN_CONSTRUCTOR, "swapped(old, 9)?"),
+    (IN_CONSTRUCTOR, "without(old, 1)"),
+    (IN_CONSTRUCTOR, "without(old, 2)"),
+    (IN_CONSTRUCTOR, "without(old, 4)"),
+    (IN_CONSTRUCTOR, "doubled(alloc, old, 3, ids)?"),
+    (f"{IN_CONSTRUCTOR}.3.expression.left.property.name", text("kind")),
+    (f"{IN_CONSTRUCTOR}.3.expression.left.object", name("log")),
+    (f"{IN_CONSTRUCTOR}.4.expression.left.field.name", text("hidden")),
+    (f"{IN_CONSTRUCTOR}.5.expression.left.expression.name", text("loose")),
+    (f"{IN_CONSTRUCTOR}.6.expression.left.expression.name", text("loose")),
+    (f"{IN_CONSTRUCTOR}.7.expression.left.expression.value", text("first")),
+    (f"{IN_CONSTRUCTOR}.9.expression.left.expression.name", text("_key")),
+    (KEYS, "without(old, 0)"),
+    (KEYS, "without(old, 2)"),
+    (KEYS, "without_last(old)"),
+    (KEYS, "swapped(old, 0)?"),
+    (KEYS, "doubled(alloc, old, 1, ids)?"),
+    (f"{KEYS}.0.left.name", text("_key")),
+    (f"{KEYS}.0", "inside(old, Field::Right)"),
+    (MEMBERS, "without(old, 0)"),
+    (MEMBERS, "without(old, 1)"),
+    (MEMBERS, "without(old, 2)"),
+    (MEMBERS, "swapped(old, 3)?"),
+    (MEMBERS, "static_in_constructor(old)?"),
+    (f"{MEMBERS}.2.value", name("log")),
+    (f"{MEMBERS}.3.value", "Part::Nothing"),
+    (IN_MADE, "without(old, 0)"),
+    (IN_MADE, "without(old, 1)"),
+    (IN_MADE, "swapped(old, 0)?"),
+    (f"{IN_MADE}.0.expression.arguments", "without_first(old)"),
+    (f"{MADE}.0.value.params.rest", "Part::Nothing"),
+    (MADE, "without(old, 0)"),
+    (MADE, "without(old, 1)"),
+    ("body.0.declarations", "without(old, 2)"),
+    ("body.0.declarations.1.id.name", text("_loose")),
+    ("body.7.declaration.body.body.0.value.body.statements", "swapped(old, 0)?"),
+]
+
+# Where empty fields go.
+DROPPED_BUGS = [(CLASSES, "ExitClass"), ("body.4.body.body", "without(old, 9)"), ("body.4.body.body", "without(old, 2)")]
+
+# Where fields stay: an element of a class with two parameter properties, and a statement of its constructor.
+FRONT, IN_FRONT = "body.3.body.body", "body.3.body.body.2.value.body.statements"
+STAYING_BUGS = [
+    (CLASSES, "EnterClass"),
+    (CLASSES, "EnterMethodDefinition"),
+    (FRONT, "without(old, 0)"),
+    (FRONT, "swapped(old, 0)?"),
+    (f"{FRONT}.1.value", name("log")),
+    (f"{FRONT}.1.static", "Part::Flag(true)"),
+    (IN_FRONT, "without(old, 1)"),
+    (IN_FRONT, "swapped(old, 0)?"),
+    (IN_FRONT, "swapped(old, 1)?"),
+    (f"{IN_FRONT}.0.expression.right.name", text("size")),
+    ("body.4.body.body", "swapped(old, 0)?"),
+]
+
 # What they are written with.
 HELPERS = """
 fn field<'a>(node: &'a mut Node, field: Field) -> &'a mut Part {
@@ -174,6 +245,36 @@ fn without_first(part: Part) -> Part {
 }
 fn without(part: Part, place: usize) -> Part {
     match part { Part::List(mut items) => { let _item = items.remove(place); Part::List(items) } other => other }
+}
+fn swapped(part: Part, place: usize) -> Result<Part, OutOfMemory> {
+    match part {
+        Part::List(mut items) => { let moved = items.remove(place); items.insert(place + 1, moved)?; Ok(Part::List(items)) }
+        other => Ok(other),
+    }
+}
+fn doubled(alloc: Global, part: Part, place: usize, ids: &mut NodeIds) -> Result<Part, OutOfMemory> {
+    match part {
+        Part::List(mut items) => {
+            let copy = match &items[place] { Part::Node(node) => node.clone_node(alloc, ids)?, _ => unreachable!() };
+            items.insert(place, Part::Node(copy))?;
+            Ok(Part::List(items))
+        }
+        other => Ok(other),
+    }
+}
+fn static_in_constructor(part: Part) -> Result<Part, OutOfMemory> {
+    match part {
+        Part::List(mut items) => {
+            let mut block = items.remove(1);
+            let moved = item(child(&mut block, Field::Body), 0).take();
+            match child(child(child(&mut items[4], Field::Value), Field::Body), Field::Statements) {
+                Part::List(statements) => statements.push(moved)?,
+                _ => unreachable!(),
+            }
+            Ok(Part::List(items))
+        }
+        other => Ok(other),
+    }
 }
 fn declared_at(alloc: Global, part: Part, place: usize, name: &str, ids: &mut NodeIds) -> Result<Part, OutOfMemory> {
     let declared = declaration(alloc, Word::Let, &Name::new(alloc, name)?, None, ids)?;
@@ -207,11 +308,20 @@ use oxt_tree::ids::NodeIds;
 use oxt_tree::name::Name;
 use std::alloc::Global;
 use crate::inline::inline_constant;"""
-# The bugs of the passes but that which erases types, by number: a hook that is left out, or a place and what comes there.
-ON_ENUMS = [*LEFT_OUT_OF_ENUMS, *ENUM_BUGS]
-ON_MODULES = [*LEFT_OUT_OF_MODULES, *MODULE_BUGS]
-LATER_BUGS = dict(enumerate([*ON_ENUMS, *ON_MODULES], len(ERASER_BUGS) + 1))
-COUNT = len(ERASER_BUGS) + len(LATER_BUGS)
+# The example, the flags and the bugs of each run.
+RUNS = [
+    ("forms", FLAGS, ERASER_BUGS),
+    ("enums", FLAGS, [*LEFT_OUT_OF_ENUMS, *ENUM_BUGS]),
+    ("namespaces", FLAGS, [*LEFT_OUT_OF_MODULES, *MODULE_BUGS]),
+    ("fields", MOVED, MOVED_BUGS),
+    ("fields", DROPPED, DROPPED_BUGS),
+    ("fields", (), STAYING_BUGS),
+]
+BUGS = dict(enumerate([bug for _, _, bugs in RUNS for bug in bugs], 1))
+# Those of the passes but that which erases types: a hook that is left out, or a place and what comes there.
+LATER_BUGS = {number: bug for number, bug in BUGS.items() if number > len(ERASER_BUGS)}
+# The files of the passes.
+PASSES = (ENUMS, NAMESPACES, MODULES, EXTENSIONS, CLASSES)
 NUMBERED = "if hook == Hook::EnterProgram { self.bug = node.span.start; }"
 
 
@@ -278,7 +388,7 @@ def planted_enums(source):
                                  ("use crate::inline::inline_constant;", IMPORTS)), ENUMS)
     functions = HELPERS
     for number, (path, wrong) in LATER_BUGS.items():
-        if path in (ENUMS, NAMESPACES, MODULES, EXTENSIONS):
+        if path in PASSES:
             continue
         functions += f"""fn bug_{number}(node: &mut Node, ids: &mut NodeIds) -> Result<(), OutOfMemory> {{
     let alloc = *node.parts.allocator();
@@ -310,48 +420,62 @@ def planted_extensions(source):
                                     ("TypeScriptRewriteExtensions { mode }", "TypeScriptRewriteExtensions { mode, bug: 0 }")), EXTENSIONS))
 
 
+def planted_classes(source):
+    """The pass over classes with its bugs in it."""
+    return with_lines(*left_out(put(source, ("pub drops_empty: bool,\n}", "pub drops_empty: bool,\n    bug: u32,\n}"),
+                                    ("remove_class_fields_without_initializer,\n        }\n", "remove_class_fields_without_initializer,\n            bug: 0,\n        }\n")), CLASSES))
+
+
 PLANTED = {
     "crates/oxt_erase/src/pass.rt": planted_eraser,
     ENUMS: planted_enums,
     NAMESPACES: planted_namespaces,
     MODULES: planted_modules,
     EXTENSIONS: planted_extensions,
+    CLASSES: planted_classes,
 }
 
 
-def write_cases(folder):
-    """Writes the trees: for each bug one that has its form, and for none all."""
-    forms, enums, modules = (json.loads((TOP / "examples" / f"{name}.json").read_text()) for name in ("forms", "enums", "namespaces"))
-    for number, tree in enumerate([forms] * len(ERASER_BUGS) + [enums] * len(ON_ENUMS) + [modules] * len(ON_MODULES), 1):
-        (folder / f"{number:02}").write_text(json.dumps({**tree, "start": number}))
-    for name, tree in zip(("00", "00e", "00m"), (forms, enums, modules)):
-        (folder / name).write_text(json.dumps(tree))
+def write_cases(folder, flags):
+    """Writes the trees of the runs with these flags: one for each bug, and one for none."""
+    number = 0
+    for example, run_flags, bugs in RUNS:
+        tree = json.loads((TOP / "examples" / f"{example}.json").read_text())
+        for number in range(number + 1, number + 1 + len(bugs)):
+            if run_flags == flags:
+                (folder / f"{number:03}").write_text(json.dumps({**tree, "start": number}))
+        if run_flags == flags:
+            (folder / f"000{example}").write_text(json.dumps(tree))
 
 
-def answers():
-    """What the program with the bugs answers: its line where it is not certified, the case, and the status."""
-    with tempfile.TemporaryDirectory() as folder:
-        copy = Path(folder, "copy")
-        shutil.copytree(TOP, copy, ignore=shutil.ignore_patterns("out", ".git", "wip"))
-        for path, plant in PLANTED.items():
-            (copy / path).write_text(plant((copy / path).read_text()))
-        cases = Path(folder, "cases")
-        cases.mkdir()
-        write_cases(cases)
-        call = ["rt", "try", "--cases", str(cases), "--", *FLAGS]
+def answers(copy, flags):
+    """What the program with the bugs answers under the flags: its line where it is not certified, the case, and the status."""
+    with tempfile.TemporaryDirectory() as cases:
+        write_cases(Path(cases), flags)
+        call = ["rt", "try", "--cases", cases, "--", *flags]
         done = subprocess.run(call, cwd=copy / "crates/oxt", capture_output=True, text=True)
         found = re.findall(r"((?:uncertified .*\n)?)case=(\w+) run=ended status=(\d+) ", done.stderr)
         return found or sys.exit(done.stdout[-2000:] + done.stderr[-2000:])
 
 
+def all_answers():
+    """The same under the flags of each run."""
+    with tempfile.TemporaryDirectory() as folder:
+        copy = Path(folder, "copy")
+        shutil.copytree(TOP, copy, ignore=shutil.ignore_patterns("out", ".git", "wip"))
+        for path, plant in PLANTED.items():
+            (copy / path).write_text(plant((copy / path).read_text()))
+        return [answer for flags in dict.fromkeys(flags for _, flags, _ in RUNS) for answer in answers(copy, flags)]
+
+
 def main():
-    told = answers()
-    caught = sum(bool(line) and status == "2" for line, case, status in told if case.strip("0em"))
-    passes = all(status == "0" and not line for line, case, status in told if not case.strip("0em"))
+    told = all_answers()
+    caught = sum(bool(line) and status == "2" for line, case, status in told if not case.startswith("000"))
+    passes = all(status == "0" and not line for line, case, status in told if case.startswith("000"))
     for line, case, status in told:
         print(f"bug {case}: status {status} {line.strip()}")
-    print(f"{caught} of {COUNT} bugs are answered uncertified; without one the trees {'are lowered' if passes else 'are NOT lowered'}")
-    sys.exit(0 if passes and caught == COUNT else 1)
+    print(f"{caught} of {len(BUGS)} bugs are answered uncertified; without one the trees {'are lowered' if passes else 'are NOT lowered'}")
+    sys.exit(0 if passes and caught == len(BUGS) else 1)
 
 
 if __name__ == "__main__":

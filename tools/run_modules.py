@@ -1,7 +1,7 @@
 #!/usr/bin/env python3
 """Runs the TypeScript modules of a folder as the program lowers them and as other compilers do, and compares what they do.
 
-    tools/run_modules.py [--node-path PATH] OXT FOLDER
+    tools/run_modules.py [--node-path PATH] [--assigned] OXT FOLDER
 
 OXT is the built program `oxt`, and FOLDER holds the modules, as NAME.ts. They are lowered by way of `adapters/node`. PATH, or
 else the variable NODE_PATH, names the folder of node's modules that has `typescript` and `@babel/core`. Node is 20.6 or later.
@@ -9,7 +9,8 @@ else the variable NODE_PATH, names the folder of node's modules that has `typesc
 `oxt`, tsc and Babel each get a folder, where each module is NAME.mjs beside the other files of FOLDER; a module that one
 of them refuses has another's text there, for those that import it. A module imports another as "./NAME.mjs", "./NAME.js"
 or "./NAME". Compared are what it prints, its status, and the name and type of each of its exports. A compiler that
-finds the source faulty, as an old tsc finds new syntax, is passed over.
+finds the source faulty, as an old tsc finds new syntax, is passed over. With `--assigned` public fields are set by assignment
+and empty ones go, in `oxt` by its flags and in tsc by `useDefineForClassFields: false`; Babel is then left out.
 
 Prints a line for each module: `same`, `differs` with the compiler and the first line, `refused` with the program's
 line, or `unread` where no tree or no other text can be made of the source. Then the counts. The status is 1 if a module
@@ -41,6 +42,8 @@ const plugins = [[require("@babel/plugin-transform-typescript"), { allowDeclareF
 const compile = (source, filename) =>
   require("@babel/core").transformSync(source, { filename, plugins, babelrc: false, configFile: false }).code;"""
 COMPILERS = {"tsc": TSC, "babel": BABEL}
+ASSIGNED = {"tsc": TSC.replace("useDefineForClassFields: true", "useDefineForClassFields: false")}
+ASSIGNED_FLAGS = ["--set-public-class-fields", "--remove-empty-fields"]
 # Compiles each pair of files that it is given; what fails is not written.
 COMPILE_ALL = """
 const fs = require("fs");
@@ -67,9 +70,9 @@ def last_line(text):
     return next((line for line in reversed(text.decode(errors="replace").splitlines()) if line.strip()), "")
 
 
-def lower(program, source, target):
-    """Writes the text of the module as the program lowers it, or tells why there is none."""
-    done = node([ADAPTER, "--oxt", program, source])
+def lower(program, flags, source, target):
+    """Writes the text of the module as the program lowers it under the flags, or tells why there is none."""
+    done = node([ADAPTER, "--oxt", program, *flags, source])
     if done.returncode != 0:
         line = last_line(done.stderr)
         return f"unread {line}" if "syntax error" in line else f"refused {line or done.returncode}"
@@ -77,23 +80,23 @@ def lower(program, source, target):
     return None
 
 
-def compile_all(folder, names, room):
+def compile_all(compilers, folder, names, room):
     """Makes the folders of the sides, each with the files that are no modules, and the texts of the compilers; gives
     the compilers that have read each module."""
-    for side in ("oxt", *COMPILERS):
+    for side in ("oxt", *compilers):
         shutil.copytree(folder, room / side, symlinks=True, ignore=shutil.ignore_patterns("*.ts"))
         (room / side / "resolve.mjs").write_text(RESOLVE)
         (room / side / "register.mjs").write_text(REGISTER)
-    for side, code in COMPILERS.items():
+    for side, code in compilers.items():
         pairs = [(str(folder / f"{name}.ts"), str(room / side / f"{name}.mjs")) for name in names]
         node(["-e", code + COMPILE_ALL], json.dumps(pairs).encode())
-    return {name: [side for side in COMPILERS if (room / side / f"{name}.mjs").exists()] for name in names}
+    return {name: [side for side in compilers if (room / side / f"{name}.mjs").exists()] for name in names}
 
 
 def lend(room, name, sides):
     """Puts a compiler's text of the module where there is none, for those modules that import it."""
     for side in ("oxt", *COMPILERS):
-        if sides and not (room / side / f"{name}.mjs").exists():
+        if sides and (room / side).exists() and not (room / side / f"{name}.mjs").exists():
             shutil.copy(room / sides[0] / f"{name}.mjs", room / side)
 
 
@@ -124,6 +127,7 @@ def compare(room, name, sides):
 def main():
     parser = argparse.ArgumentParser(description=__doc__.split("\n", 1)[0])
     parser.add_argument("--node-path", default=os.environ.get("NODE_PATH", DEFAULT_NODE_PATH))
+    parser.add_argument("--assigned", action="store_true", help="public fields are set by assignment, and empty ones go")
     for word in ("program", "folder"):
         parser.add_argument(word, type=lambda path: Path(path).resolve())
     words = parser.parse_args()
@@ -132,10 +136,11 @@ def main():
     counts = collections.Counter()
     with tempfile.TemporaryDirectory() as temporary:
         room = Path(temporary)
-        sides = compile_all(words.folder, names, room)
+        sides = compile_all(ASSIGNED if words.assigned else COMPILERS, words.folder, names, room)
         answers = {}
         for name in names:
-            answers[name] = lower(words.program, words.folder / f"{name}.ts", room / "oxt" / f"{name}.mjs")
+            flags = ASSIGNED_FLAGS if words.assigned else []
+            answers[name] = lower(words.program, flags, words.folder / f"{name}.ts", room / "oxt" / f"{name}.mjs")
             lend(room, name, sides[name])
         for name in names:
             answer = answers[name] or compare(room, name, sides[name])

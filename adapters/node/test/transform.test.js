@@ -132,7 +132,8 @@ describe("refusals name their place", NEEDS_PROGRAM, () => {
     ["enum A { B, C = ((A) => B)(1) }", "captured A at a.ts:1:25"],
     ["a;\n{ namespace B { c; } }", "misplaced namespace at a.ts:2:3"],
     ["namespace A { this; }", "captured this at a.ts:1:15"],
-    ["class A { constructor(private b) {} }", "unbuilt FormalParameter at a.ts:1:23"],
+    ["class A { constructor(private b) { let b; } }", "captured b at a.ts:1:23"],
+    ["class A extends B { constructor(private c) {} }", "misplaced super at a.ts:1:21"],
   ];
   for (const [source, message] of cases) {
     test(source.slice(0, 60), async () => {
@@ -146,17 +147,15 @@ describe("answers of a program", () => {
   const source = "let a;\nenum B {}\nclass C { constructor(d, private e) {} }\n";
   const body = [{ type: "TSEnumDeclaration", start: 7, body: { type: "TSEnumBody", start: 14, members: [] } }];
   const parameter = { type: "FormalParameter", start: 42, accessibility: "private" };
-  const namespace = { type: "TSNamespaceDeclaration", start: 17 };
-  const tree = { type: "Program", start: 0, body: [...body, { type: "X", start: 17, items: [{ type: "FormalParameter", start: 39 }, parameter, namespace] }] };
+  const tree = { type: "Program", start: 0, body: [...body, { type: "X", start: 17, items: [{ type: "FormalParameter", start: 39 }, parameter] }] };
   const question = new Question({ source, filename: "a.ts", tree, flags: ["--legacy"], binary: "oxt", isModule: false });
   const answer = (parts) => ({ status: 0, signal: null, out: "", err: "", ...parts });
   const cases = [
     [{ status: 2, err: "misplaced namespace /body/0\n" }, OxtRefusal, "misplaced namespace at a.ts:2:1"],
     [{ status: 2, err: "captured arguments /body/0/body\n" }, OxtRefusal, "captured arguments at a.ts:2:8"],
     [{ status: 2, err: "shape /body/0/body/members/3/id\n" }, OxtRefusal, "no tree of the grammar at a.ts:2:8"],
-    [{ status: 2, err: "unbuilt TSNamespaceDeclaration\n" }, OxtRefusal, "unbuilt TSNamespaceDeclaration at a.ts:3:1"],
     [{ status: 2, err: "misplaced merge /body/0\n" }, OxtRefusal, "misplaced merge at a.ts:2:1"],
-    [{ status: 2, err: "unbuilt FormalParameter\n" }, OxtRefusal, "unbuilt FormalParameter at a.ts:3:26"],
+    [{ status: 2, err: "misplaced field /body/1/items/1\n" }, OxtRefusal, "misplaced field at a.ts:3:26"],
     [{ status: 2, err: "wide 14..16\n" }, OxtRefusal, "wide at a.ts:2:8"],
     [{ status: 2, err: "uncertified plain /body/4\n" }, OxtRefusal, "uncertified plain /body/4 at a.ts:1:1"],
     [{ status: 2, err: "json\n" }, OxtRefusal, "no JSON at a.ts:1:1"],

@@ -7,6 +7,7 @@ mod diagnostics;
 mod io;
 mod options;
 mod places;
+mod supers;
 mod targets;
 mod texts;
 mod trees;
@@ -17,6 +18,7 @@ use crate::diagnostics::print_diagnostics;
 use crate::io::print_io;
 use crate::options::print_options;
 use crate::places::print_places;
+use crate::supers::print_supers;
 use crate::targets::print_targets;
 use crate::texts::print_texts;
 use crate::trees::print_trees;
@@ -49,5 +51,6 @@ fn print_all(alloc: Global, table: &Table, lines: &mut Lines) -> std::result::Re
     print_texts(alloc, table, lines)?;
     print_targets(alloc, table, lines)?;
     print_places(alloc, table, lines)?;
-    print_visits(alloc, table, lines)
+    print_visits(alloc, table, lines)?;
+    print_supers(alloc, table, lines)
 }

@@ -10,7 +10,6 @@ pub fn print_faults(alloc: Global, lines: &mut Lines) -> Result<(), Stopped> {
     at_places(alloc, lines)?;
     at_indices(alloc, lines)?;
     of_name(alloc, lines)?;
-    unbuilt(alloc, lines)?;
     tell(alloc, &Fault::OutOfMemory, lines)
 }
 
@@ -39,11 +38,6 @@ fn at_indices(alloc: Global, lines: &mut Lines) -> Result<(), Stopped> {
 fn of_name(alloc: Global, lines: &mut Lines) -> Result<(), Stopped> {
     let name = Name::new(alloc, "_N")?;
     uncertified(alloc, Mismatch::Binding { name }, lines)
-}
-
-fn unbuilt(alloc: Global, lines: &mut Lines) -> Result<(), Stopped> {
-    let kind = Name::new(alloc, "dts")?;
-    tell(alloc, &Fault::Unbuilt { kind }, lines)
 }
 
 /// A place.

@@ -4,6 +4,7 @@ ghost use Rattle.oxt_stores.specs.Frame.{frames};
 ghost use Rattle.oxt_stores.specs.Insertion.{pending};
 
 use crate::both::print_twice;
+use crate::keys::print_keys_in;
 use oxt_ctx::ancestor::AncestorRecord;
 use oxt_ctx::bound::BindingNodes;
 use oxt_ctx::context::TraverseCtx;
@@ -92,6 +93,8 @@ pub enum Calls<'a> {
     All,
     /// The makers of variables, one by the text of the node.
     Variables(&'a Node),
+    /// The makers of what keys and constructors of classes become, with that key.
+    Keys(&'a Node),
     /// A hook of two passes.
     Both,
 }
@@ -129,6 +132,7 @@ fn print_calls_in(
     match calls {
         Calls::All => print_in(alloc, ctx, lines),
         Calls::Variables(member) => three_variables(alloc, member, ctx, lines),
+        Calls::Keys(key) => print_keys_in(alloc, key, ctx, lines),
         Calls::Both => print_twice(alloc, ctx, lines),
     }
 }

@@ -5,11 +5,13 @@
 
 mod both;
 mod context;
+mod keys;
 mod passes;
 mod stores;
 
 use crate::both::print_both;
 use crate::context::print_context;
+use crate::keys::print_keys;
 use crate::passes::print_passes;
 use crate::stores::print_stores;
 use anyhow::Result;
@@ -33,6 +35,7 @@ fn main(rt: HostRuntime) -> Result<()> {
 fn print_all(alloc: Global, table: &Table, lines: &mut Lines) -> std::result::Result<(), Stopped> {
     print_stores(alloc, lines)?;
     print_context(alloc, table, lines)?;
+    print_keys(alloc, table, lines)?;
     print_passes(alloc, table, lines)?;
     print_both(alloc, table, lines)
 }

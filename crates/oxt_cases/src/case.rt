@@ -1,9 +1,9 @@
 //! A case of a table.
 //!
 //! A case is an object of JSON: a `name`, the `source` text that it stands for, its `tree`, the tree of an
-//! `output` where the table compares two, `optimize` where the members of its enums are inlined, `module` and
-//! `rewrite` as on the command line, and `wanted`, a list with a value for each line that is wanted: a text, or
-//! what a line has as JSON.
+//! `output` where the table compares two, `optimize` where the members of its enums are inlined, `moves` where
+//! public fields are set by assignment, `drops` where empty ones are removed, `module` and `rewrite` as on the
+//! command line, and `wanted`, a list with a value for each line that is wanted: a text, or what a line has as JSON.
 
 use crate::trees::Trees;
 use anyhow::{Context, Result};

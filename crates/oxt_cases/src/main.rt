@@ -2,7 +2,8 @@
 //!
 //! Without an argument it runs each case of the tables in the files `*.json`, prints a line for each, and the
 //! count of all. With the name of a table as its argument it reads a tree from standard input, and prints the
-//! lines of that table for it; for `pair` and `differences` an object with a `tree` and an `output`.
+//! lines of that table for it; or an object as a case is, with a `tree`, options, and for `pair` and `differences` an
+//! `output`.
 //!
 //! A word of a tree is written an item a line: a JSON array without spaces, of the name of the item's kind, what
 //! the item is spelled, and its further texts and flags, in the order of the grammar. What is absent is `null`.
@@ -20,11 +21,14 @@
 
 mod blocks;
 mod case;
+mod class_faults;
+mod classes;
 mod constants;
 mod differences;
 mod enums;
 mod fault;
 mod faults;
+mod fields;
 mod items;
 mod levels;
 mod lowered;

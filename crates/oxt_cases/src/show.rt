@@ -6,6 +6,7 @@ use crate::trees::Trees;
 use anyhow::{Result, bail};
 use oxt_io::{ReaderSource, WriterSink, read_to_limit};
 use serde_json::Value;
+use std::alloc::Global;
 
 /// Prints the lines of the table of that name.
 ///
@@ -37,14 +38,22 @@ fn show_lines(rt: &HostRuntime, table: Table) -> Result<()> {
     Ok(())
 }
 
-/// The trees on standard input: a tree alone, or an object with a `tree` and an `output`.
+/// The trees on standard input: a tree alone, or an object with a `tree`, an `output` where the table compares two,
+/// and options.
 fn trees_on_input(rt: &HostRuntime, table: Table) -> Result<Trees> {
     let bytes = bytes_on_input(rt)?;
-    if table.compares_two() {
-        let pair = Value::from_slice(rt.alloc(), bytes.as_slice())?;
-        Trees::from_value(rt.alloc(), &pair)
-    } else {
-        Trees::from_bytes(rt.alloc(), bytes.as_slice())
+    match object_in(rt.alloc(), bytes.as_slice()) {
+        Some(object) => Trees::from_value(rt.alloc(), &object),
+        None if table.compares_two() => bail!("there is no output"),
+        None => Trees::from_bytes(rt.alloc(), bytes.as_slice()),
+    }
+}
+
+/// The object with a `tree` that the bytes spell, if they spell one.
+fn object_in(alloc: Global, bytes: &[u8]) -> Option<Value> {
+    match Value::from_slice(alloc, bytes) {
+        Ok(value) if value.get("tree").is_some() => Some(value),
+        _ => None,
     }
 }
 

@@ -2,7 +2,8 @@
 
 use crate::trees::Trees;
 use crate::{
-    blocks, constants, differences, enums, faults, levels, lowered, names, scopes, told, words,
+    blocks, class_faults, constants, differences, enums, faults, fields, levels, lowered, names,
+    scopes, told, words,
 };
 use anyhow::Result;
 use oxt_tree::ids::OutOfMemory;
@@ -33,6 +34,10 @@ pub enum Table {
     Clash,
     /// What stands in the way of lowering the enums.
     EnumFaults,
+    /// What becomes of the elements of classes.
+    Fields,
+    /// What stands in the way of lowering the classes.
+    ClassFaults,
     /// What is told of nodes.
     Told,
     /// The first words at the level of the statements.
@@ -52,7 +57,7 @@ pub enum Table {
 }
 
 /// The tables that have cases.
-pub const TABLES: [Table; 19] = [
+pub const TABLES: [Table; 21] = [
     Table::Names,
     Table::Owners,
     Table::Declarations,
@@ -64,6 +69,8 @@ pub const TABLES: [Table; 19] = [
     Table::FirstBlocks,
     Table::Clash,
     Table::EnumFaults,
+    Table::Fields,
+    Table::ClassFaults,
     Table::Told,
     Table::Levels,
     Table::Lowered,
@@ -89,6 +96,8 @@ impl Table {
             "first-blocks" => Some(Table::FirstBlocks),
             "clash" => Some(Table::Clash),
             "enum-faults" => Some(Table::EnumFaults),
+            "fields" => Some(Table::Fields),
+            "class-faults" => Some(Table::ClassFaults),
             "told" => Some(Table::Told),
             "levels" => Some(Table::Levels),
             "lowered" => Some(Table::Lowered),
@@ -115,6 +124,8 @@ impl Table {
             Table::FirstBlocks => "first-blocks.json",
             Table::Clash => "clash.json",
             Table::EnumFaults => "enum-faults.json",
+            Table::Fields => "fields.json",
+            Table::ClassFaults => "class-faults.json",
             Table::Told => "told.json",
             Table::Levels => "levels.json",
             Table::Lowered => "lowered.json",
@@ -173,6 +184,8 @@ impl Table {
             Table::FirstBlocks => blocks::first_lines_of(alloc, &program.root),
             Table::Clash => blocks::clash_lines_of(alloc, &program.root),
             Table::EnumFaults => faults::lines_of(alloc, &program.root),
+            Table::Fields => fields::lines_of(alloc, &program.root, options),
+            Table::ClassFaults => class_faults::lines_of(alloc, &program.root, options),
             Table::Told => told::lines_of(alloc, program, options),
             Table::Levels => levels::lines_of(alloc, &program.root),
             Table::Lowered => lowered::lines_of(alloc, program, &options.typescript),

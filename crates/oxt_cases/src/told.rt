@@ -1,8 +1,10 @@
 //! What is told of the nodes of a program.
+use crate::classes::{push_gains, push_moves};
 use crate::constants::push_value;
 use crate::namespaces::{push_export, push_namespace, push_quasi, push_stored};
 use oxt_enum_checks::first::first_blocks;
 use oxt_facts::told::{MemberValue, Told, ToldBlock, ToldMember, ToldNodes};
+use oxt_fields::written::never_written_nodes;
 use oxt_inline::dropped::dropped_blocks;
 use oxt_inline::inlined::inlined_expressions;
 use oxt_modules::kept::kept_nodes;
@@ -32,7 +34,8 @@ pub fn told_nodes(
     told_of_source(alloc, program, &scoping, &plan, options)
 }
 
-/// The plan for what is kept of the modules of the program, and for its blocks of enums and namespaces.
+/// The plan for what is kept of the modules of the program, for its blocks of enums and namespaces, and for the names
+/// that nothing writes to.
 ///
 /// # Errors
 ///
@@ -48,14 +51,16 @@ pub fn plan_of(
     lists.first = first_blocks(alloc, program, scoping)?;
     lists.inlined = inlined_expressions(alloc, program, scoping, &kept, options)?;
     lists.dropped = dropped_blocks(alloc, program, scoping, &kept, options)?;
+    lists.never_written = never_written_nodes(alloc, program, scoping)?;
     lists.kept = kept.into_nodes();
     Plan::new(alloc, lists)
 }
 
 /// A line for each node of which something is told: its number and `block`, `member`, `bare`, `inlined`, `gone`,
-/// `listless`, `strict`, `quasi`, `namespace`, `export` or `stored`. Behind it stand the name of the enum, of a block
-/// whether it is first, the program's own and pure, of a member its name, its value and whether it has a name by its
-/// value; the constant that is inlined; the two texts of a piece of a template; what is told of namespaces.
+/// `listless`, `strict`, `quasi`, `namespace`, `export`, `stored`, `gains`, `moves` or `key`. Behind it stand the name of
+/// the enum, of a block whether it is first, the program's own and pure, of a member its name, its value and whether it
+/// has a name by its value; the constant that is inlined; the two texts of a piece of a template; what is told of
+/// namespaces and classes.
 ///
 /// # Errors
 ///
@@ -97,6 +102,9 @@ fn push_told(
         Some(Told::Namespace(namespace)) => push_namespace(number, namespace, lines),
         Some(Told::Export(export)) => push_export(number, export, lines),
         Some(Told::Stored(stored)) => push_stored(number, stored, lines),
+        Some(Told::Gains(gaining)) => push_gains(number, gaining, lines),
+        Some(Told::Moves(moving)) => push_moves(number, moving, lines),
+        Some(Told::LeavesKey) => Ok(writeln!(lines, "{number} key")?),
         None => Ok(()),
     }
 }

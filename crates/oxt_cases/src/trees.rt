@@ -58,13 +58,15 @@ impl Trees {
     }
 }
 
-/// The options that an object has: `optimize` where the members of enums are inlined, `module`, and
-/// `rewrite` for the names of modules.
+/// The options that an object has: `optimize` where the members of enums are inlined, `moves` where public fields
+/// are set by assignment, `drops` where empty ones are removed, `module`, and `rewrite` for the names of modules.
 fn options_in(alloc: Global, value: &Value) -> Result<TransformOptions> {
     let mut options = defaults(alloc)?;
     let optimizes = value.get("optimize").is_some();
     options.typescript.optimize_enums = optimizes;
     options.typescript.optimize_const_enums = optimizes;
+    options.set_public_class_fields = value.get("moves").is_some();
+    options.typescript.remove_class_fields_without_initializer = value.get("drops").is_some();
     if let Some(word) = value.get("module").and_then(Value::as_str) {
         options.module = module_named(word)?;
     }

@@ -6,8 +6,10 @@ use Rattle.oxt_faults.specs.Captured.{Capture, captured}
 use Rattle.oxt_faults.specs.Free.{free}
 use Rattle.oxt_faults.specs.Initializers.{initializer_word}
 use Rattle.oxt_faults.specs.Level.{LevelWordAt}
+use Rattle.oxt_faults.specs.Moved.{moved_capture}
 use Rattle.oxt_faults.specs.Namespaces.{namespace_word}
 use Rattle.oxt_faults.specs.Words.{text_of_word}
+use Rattle.oxt_fields.specs.Rules.{Rules}
 use Rattle.oxt_modules.specs.Aliases.{left_out}
 use Rattle.oxt_options.specs.Facts.{is_in}
 use Rattle.oxt_scoping.specs.Scoped.{Scoped}
@@ -39,8 +41,9 @@ abbrev pub captured_spelling : Scoped → (ℕ → Bool) → Doc → Option Capt
 captured_spelling s ks d =
     former (captured s (is_in (left_out ks d)) d) (former (free s ks d) (option_map shadow_capture (shadowed s d)))
 
--- The one at the node of the least number of a whole tree, in which that is kept: of words in initializers that stay as
--- written, of words in namespaces, of names whose declarations are erased, of free names that are made, and of names of
--- enums; of several at one node the first of these.
-abbrev pub first_capture : Scoped → (ℕ → Bool) → Doc → Option Capture
-first_capture s ks d = former (captured_word s d) (captured_spelling s ks d)
+-- The one at the node of the least number of a whole tree, whose fields are lowered by these rules and in which that is
+-- kept: of words in initializers that stay as written, of words in namespaces, of names in classes whose fields move, of
+-- names whose declarations are erased, of free names that are made, and of names of enums; of several at one node the first
+-- of these.
+abbrev pub first_capture : Scoped → Rules → (ℕ → Bool) → Doc → Option Capture
+first_capture s r ks d = former (captured_word s d) (former (moved_capture s r d) (captured_spelling s ks d))

@@ -1,11 +1,15 @@
 -- The first misplaced node of a program, of all kinds.
 use Rattle.std.specs.Prelude.{ℕ, Bool, ◌&&◌, ◌||◌, nat_lt, nat_eq, if◌then◌else◌, Option, None, Some, option_map}
+use Rattle.oxt_class_checks.specs.Misplaced.{ElementFault, misplaced_element}
+use Rattle.oxt_class_checks.specs.declared.misplaced.ClassFault.{ClassFault}
+use Rattle.oxt_class_checks.specs.declared.misplaced.ClassFault.TheVariants as class_fault
 use Rattle.oxt_enum_checks.specs.Clash.{first_clash}
 use Rattle.oxt_enum_checks.specs.LateBase.{late_base}
 use Rattle.oxt_enum_checks.specs.Misnamed.{misnamed}
 use Rattle.oxt_faults.specs.Misplaced.{Misplacement, misplaced}
 use Rattle.oxt_faults.specs.declared.misplaced.MisplacedKind.{MisplacedKind}
 use Rattle.oxt_faults.specs.declared.misplaced.MisplacedKind.TheVariants as misplaced_kind
+use Rattle.oxt_fields.specs.Rules.{Rules}
 use Rattle.oxt_scoping.specs.Scoped.{Scoped}
 use Rattle.oxt_tree.specs.Doc.{Doc}
 
@@ -15,7 +19,10 @@ rank misplaced_kind.Body = 0
 rank misplaced_kind.Namespace = 1
 rank misplaced_kind.Merge = 2
 rank misplaced_kind.Enum = 3
-rank misplaced_kind.Decorator = 4
+rank misplaced_kind.Super = 4
+rank misplaced_kind.Key = 5
+rank misplaced_kind.Field = 6
+rank misplaced_kind.Decorator = 7
 
 -- one comes before the other: its node has the lesser number, or it is of an earlier kind at the same node
 abbrev pub is_before : Misplacement → Misplacement → Bool
@@ -38,7 +45,20 @@ named_misplacement s d =
     former (of_kind misplaced_kind.Namespace (late_base s d))
     (former (of_kind misplaced_kind.Merge (first_clash s d)) (of_kind misplaced_kind.Enum (misnamed s d)))
 
+-- what is misplaced where that is wrong with an element of a class
+abbrev pub element_kind : ClassFault → MisplacedKind
+element_kind class_fault.Super = misplaced_kind.Super
+element_kind class_fault.Key = misplaced_kind.Key
+element_kind class_fault.Field = misplaced_kind.Field
+
+abbrev pub of_element : ElementFault → Misplacement
+of_element e = (element_kind e.0, e.1)
+
+-- the first that classes decide, by the rules of fields: the constructor of a derived class, or a field
+abbrev pub class_misplacement : Rules → Doc → Option Misplacement
+class_misplacement r d = option_map of_element (misplaced_element r d)
+
 -- The first of a whole tree: of all kinds the one at the node of the least number, and of several kinds at one node the
 -- earliest.
-abbrev pub first_misplacement : Scoped → Doc → Option Misplacement
-first_misplacement s d = former (misplaced d) (named_misplacement s d)
+abbrev pub first_misplacement : Scoped → Rules → Doc → Option Misplacement
+first_misplacement s r d = former (misplaced d) (former (named_misplacement s d) (class_misplacement r d))

@@ -3,7 +3,7 @@ use Rattle.std.specs.Prelude.{ℕ, List, ◌++◌, codes, decimal}
 use Rattle.oxt_check.specs.declared.fault.Mismatch.{Mismatch}
 use Rattle.oxt_check.specs.declared.fault.Mismatch.TheVariants.{Shape, Plain, Setting, Item, Owner, Binding}
 use Rattle.oxt_faults.specs.declared.misplaced.MisplacedKind.{MisplacedKind}
-use Rattle.oxt_faults.specs.declared.misplaced.MisplacedKind.TheVariants.{Body, Namespace, Merge, Enum, Decorator}
+use Rattle.oxt_faults.specs.declared.misplaced.MisplacedKind.TheVariants.{Body, Namespace, Merge, Enum, Super, Key, Field, Decorator}
 use Rattle.oxt_tree.specs.Names.{name_bytes}
 use Rattle.oxt_tree.specs.declared.ids.Span.{Span}
 
@@ -27,12 +27,11 @@ difference_in (Item i) = item_at i
 difference_in (Owner i) = owner_at i
 difference_in (Binding name) = binding_of (name_bytes name)
 
--- the bytes are no JSON; the value at a place is wrong; a form is not built yet; a node is misplaced; the constant of a
--- member that stands there would be too large; a name would be captured; the lowered tree failed its test
+-- the bytes are no JSON; the value at a place is wrong; a node is misplaced; the constant of a member that stands there
+-- would be too large; a name would be captured; the lowered tree failed its test
 pub data Refusal : Type 0 where
   json : Refusal
   shape : List ℕ → Refusal
-  unbuilt_form : List ℕ → Refusal
   misplaced_node : MisplacedKind → List ℕ → Refusal
   wide_member : ℕ × ℕ → Refusal
   captured_name : List ℕ → List ℕ → Refusal
@@ -48,13 +47,15 @@ kind_text Body = codes "body"
 kind_text Namespace = codes "namespace"
 kind_text Merge = codes "merge"
 kind_text Enum = codes "enum"
+kind_text Super = codes "super"
+kind_text Key = codes "key"
+kind_text Field = codes "field"
 kind_text Decorator = codes "decorator"
 
 -- the line on standard error
 abbrev pub line_of : Refusal → List ℕ
 line_of json = codes "json\n"
 line_of (shape place) = codes "shape " ++ place ++ codes "\n"
-line_of (unbuilt_form kind) = codes "unbuilt " ++ kind ++ codes "\n"
 line_of (misplaced_node m place) = codes "misplaced " ++ kind_text m ++ codes " " ++ place ++ codes "\n"
 line_of (wide_member span) = codes "wide " ++ decimal span.0 ++ codes ".." ++ decimal span.1 ++ codes "\n"
 line_of (captured_name name place) = codes "captured " ++ name ++ codes " " ++ place ++ codes "\n"

@@ -3,8 +3,10 @@ ghost use Rattle.std.specs.Prelude.{◌≡◌, IfOk, option_map};
 ghost use Rattle.oxt_check.specs.Captures.{captured_spelling, captured_word, first_capture, former, name_view, shadow_capture, word_capture};
 ghost use Rattle.oxt_enum_checks.specs.Shadows.{shadow_view};
 ghost use Rattle.oxt_faults.specs.Captured.{capture_view};
+ghost use Rattle.oxt_faults.specs.Earliest.{moved_view};
 ghost use Rattle.oxt_faults.specs.Free.{free_view};
 ghost use Rattle.oxt_faults.specs.Level.{found_view};
+ghost use Rattle.oxt_fields.specs.Rules.{rules_view};
 ghost use Rattle.oxt_options.specs.Facts.{is_in};
 ghost use Rattle.oxt_tree.specs.View.{node_doc};
 
@@ -13,7 +15,9 @@ use oxt_faults::captured::{CapturedName, first_captured};
 use oxt_faults::free::{FoundFree, first_free};
 use oxt_faults::initializer::first_initializer_word;
 use oxt_faults::level::FoundWord;
+use oxt_faults::moved::{MovedName, first_moved_capture};
 use oxt_faults::namespace::first_namespace_word;
+use oxt_fields::rules::FieldRules;
 use oxt_modules::alias::left_out_names;
 use oxt_modules::nodes::NodeList;
 use oxt_scoping::scoping::Scoping;
@@ -31,9 +35,10 @@ pub struct NameAt<'a> {
 }
 
 /// The captured name at the node of the least number: a word in an initializer or a namespace that goes into a function,
-/// a name whose declaration is erased, a free name that is made and has a declaration around it, or the name of an enum
-/// at a bare name of a member, which is written by way of it. Of several at one node it is the first of these. `scoping`
-/// is the table of the program, and `kept` lists what of its imports and exports is kept.
+/// a name in a field, a key or a constructor of a class whose fields move, a name whose declaration is erased, a free name
+/// that is made and has a declaration around it, or the name of an enum at a bare name of a member, which is written by
+/// way of it. Of several at one node it is the first of these. `scoping` is the table of the program, `rules` say how its
+/// fields are lowered, and `kept` lists what of its imports and exports is kept.
 ///
 /// # Errors
 ///
@@ -42,14 +47,16 @@ pub fn first_capture<'a>(
     alloc: Global,
     program: &'a Node,
     scoping: &'a Scoping,
+    rules: FieldRules,
     kept: &NodeList,
 ) -> Result<Option<NameAt<'a>>, OutOfMemory>
     ensures { IfOk result (λ found. option_map name_view found
-        ≡ first_capture scoping.now (is_in kept.now) (node_doc program.now)) }
+        ≡ first_capture scoping.now (rules_view rules.entry) (is_in kept.now) (node_doc program.now)) }
 {
     let word = captured_word(alloc, program, scoping)?;
+    let moved = of_moved(first_moved_capture(alloc, program, scoping, rules)?);
     let spelling = captured_spelling(alloc, program, scoping, kept)?;
-    Ok(former(word, spelling))
+    Ok(former(word, former(moved, spelling)))
 }
 
 /// The first word in an initializer or a namespace that goes into a function.
@@ -91,6 +98,17 @@ fn of_name<'a>(found: Option<CapturedName<'a>>) -> Option<NameAt<'a>>
     Some(NameAt {
         node: found.node,
         name: found.name.as_str(),
+    })
+}
+
+/// The name in a class whose fields move.
+fn of_moved<'a>(found: Option<MovedName<'a>>) -> Option<NameAt<'a>>
+    ensures { option_map name_view result ≡ option_map moved_view found.entry }
+{
+    let found = found?;
+    Some(NameAt {
+        node: found.node,
+        name: found.name,
     })
 }
 

@@ -1,10 +1,12 @@
 //! The check of a program, before any pass changes it.
 ghost use Rattle.std.specs.Prelude.{◌≡◌, None, Some, OnOk, IfOk, IfErr};
 ghost use Rattle.oxt_check.specs.Captures.{name_view};
-ghost use Rattle.oxt_check.specs.Faults.{IsFaultOf, IsThe, captured_refusal, code_fault, facts_by, facts_of, first_fault, misplaced_refusal, place_fault, place_text, refusal_in};
+ghost use Rattle.oxt_check.specs.Faults.{IsFaultOf, IsThe, captured_refusal, code_fault, facts_by, facts_of, fault_by, first_fault, misplaced_refusal, place_fault, place_text, refusal_in};
 ghost use Rattle.oxt_faults.specs.Misplaced.{misplaced_view};
+ghost use Rattle.oxt_fields.specs.Rules.{rules_of, rules_view};
 ghost use Rattle.oxt_options.specs.Options.{transform_view};
-ghost use Rattle.oxt_options.specs.Facts.{Answers, is_in};
+ghost use Rattle.oxt_options.specs.Facts.{Answers, constant_at, is_in};
+ghost use Rattle.oxt_options.specs.Lists.{numbers_in};
 ghost use Rattle.oxt_tree.specs.Names.{name_bytes};
 ghost use Rattle.oxt_tree.specs.View.{node_doc};
 
@@ -14,6 +16,8 @@ use crate::misplacement::first_misplacement;
 use oxt_enum_checks::first::first_blocks;
 use oxt_enum_checks::wide::first_wide;
 use oxt_faults::misplaced::Misplaced;
+use oxt_fields::rules::FieldRules;
+use oxt_fields::written::never_written_nodes;
 use oxt_inline::dropped::dropped_blocks;
 use oxt_inline::inlined::inlined_expressions;
 use oxt_modules::kept::kept_nodes;
@@ -26,19 +30,18 @@ use oxt_tree::ids::{NodeId, OutOfMemory};
 use oxt_tree::name::Name;
 use oxt_tree::place::place_of;
 use oxt_tree::tree::{Node, Program};
-use oxt_unbuilt::unbuilt::first_unbuilt;
 use std::alloc::Global;
 
 /// What the passes ask of the nodes of a program, whose table of scopes and symbols is `scoping`.
 ///
 /// They ask what of imports and exports is kept, which blocks of enums and namespaces come first, which blocks of enums
-/// are dropped, and which expressions are inlined; the list of names that nothing writes to is empty so far.
+/// are dropped, which expressions are inlined, and to which names nothing writes.
 ///
 /// # Errors
 ///
-/// The first form that is not built yet, or the first misplaced node, or the first member whose constant would be too
-/// large, or the first name that would be captured, in this order; nothing else but want of memory. Of a file of
-/// definitions nothing is left, so that nothing in it is one of the last three.
+/// The first misplaced node, or the first member whose constant would be too large, or the first name that would be
+/// captured, in this order; nothing else but want of memory. Of a file of definitions nothing is left, so that nothing in
+/// it is one of these.
 pub fn check(
     alloc: Global,
     program: &Program,
@@ -52,14 +55,11 @@ pub fn check(
     ensures refused { IfErr result
         (λ f. IsFaultOf (refusal_in f) scoping.now (node_doc program.now.root) (transform_view options.now)) }
 {
-    if let Some(kind) = first_unbuilt(alloc, &program.root)? {
-        return Err(Fault::Unbuilt { kind });
-    }
     let kept = kept_nodes(alloc, &program.root, scoping, &options.typescript)?;
     check_kept(alloc, &program.root, scoping, kept, options)
 }
 
-/// Checks a program without forms that are not built yet, in which that is kept.
+/// Checks a program in which that is kept.
 fn check_kept(
     alloc: Global,
     program: &Node,
@@ -69,53 +69,81 @@ fn check_kept(
 ) -> Result<Plan, Fault>
     ensures plan { IfOk result
         (λ plan. Answers plan (facts_by kept scoping.now (node_doc program.now) (transform_view options.now))) }
-    ensures accepted { OnOk result (code_fault scoping.now (is_in kept) (node_doc program.now) ≡ None) }
-    ensures refused { IfErr result
-        (λ f. IsThe (refusal_in f) (code_fault scoping.now (is_in kept) (node_doc program.now))) }
+    ensures accepted { OnOk result
+        (fault_by (facts_by kept scoping.now (node_doc program.now) (transform_view options.now)) scoping.now (node_doc program.now) (transform_view options.now) ≡ None) }
+    ensures refused { IfErr result (λ f. IsThe (refusal_in f)
+        (fault_by (facts_by kept scoping.now (node_doc program.now) (transform_view options.now)) scoping.now (node_doc program.now) (transform_view options.now))) }
 {
-    match check_code(alloc, program, scoping, &kept) {
-        Ok(()) => Ok(plan_by(alloc, program, scoping, kept, options)?),
+    let nodes = kept.into_nodes();
+    let list = list_of(alloc, nodes.as_slice())?;
+    let plan = plan_by(alloc, program, scoping, &list, nodes, options)?;
+    check_planned(alloc, program, scoping, &list, plan, options)
+}
+
+/// Checks a program in which that is kept, whose plan that is.
+fn check_planned(
+    alloc: Global,
+    program: &Node,
+    scoping: &Scoping,
+    kept: &NodeList,
+    plan: Plan,
+    options: &TransformOptions,
+) -> Result<Plan, Fault>
+    ensures plan { IfOk result (λ p. p ≡ plan) }
+    ensures accepted { OnOk result
+        (code_fault scoping.now (rules_of (transform_view options.now) (is_in plan.never_written) (constant_at plan.inlined)) (is_in kept.now) (node_doc program.now) ≡ None) }
+    ensures refused { IfErr result (λ f. IsThe (refusal_in f)
+        (code_fault scoping.now (rules_of (transform_view options.now) (is_in plan.never_written) (constant_at plan.inlined)) (is_in kept.now) (node_doc program.now))) }
+{
+    let rules = FieldRules::new(options, &plan);
+    match check_code(alloc, program, scoping, rules, kept) {
+        Ok(()) => Ok(plan),
         Err(fault) => Err(fault),
     }
 }
 
-/// Finds the first fault of a program in which that is kept, unless it is a file of definitions, of which nothing is left.
+/// Finds the first fault of a program whose fields are lowered by these rules and in which that is kept, unless it is a
+/// file of definitions, of which nothing is left.
 fn check_code(
     alloc: Global,
     program: &Node,
     scoping: &Scoping,
+    rules: FieldRules,
     kept: &NodeList,
 ) -> Result<(), Fault>
-    ensures accepted { OnOk result (code_fault scoping.now (is_in kept.now) (node_doc program.now) ≡ None) }
-    ensures refused { IfErr result
-        (λ f. IsThe (refusal_in f) (code_fault scoping.now (is_in kept.now) (node_doc program.now))) }
+    ensures accepted { OnOk result
+        (code_fault scoping.now (rules_view rules.entry) (is_in kept.now) (node_doc program.now) ≡ None) }
+    ensures refused { IfErr result (λ f. IsThe (refusal_in f)
+        (code_fault scoping.now (rules_view rules.entry) (is_in kept.now) (node_doc program.now))) }
 {
     if program.is_definition_file() {
         Ok(())
     } else {
-        check_places(alloc, program, scoping, kept)
+        check_places(alloc, program, scoping, rules, kept)
     }
 }
 
 /// Finds the first misplaced node, and else the first member whose constant would be too large, and else the first
-/// captured name, where that is kept.
+/// captured name, where fields are lowered by these rules and that is kept.
 fn check_places(
     alloc: Global,
     program: &Node,
     scoping: &Scoping,
+    rules: FieldRules,
     kept: &NodeList,
 ) -> Result<(), Fault>
-    ensures accepted { OnOk result (place_fault scoping.now (is_in kept.now) (node_doc program.now) ≡ None) }
-    ensures refused { IfErr result
-        (λ f. IsThe (refusal_in f) (place_fault scoping.now (is_in kept.now) (node_doc program.now))) }
+    ensures accepted { OnOk result
+        (place_fault scoping.now (rules_view rules.entry) (is_in kept.now) (node_doc program.now) ≡ None) }
+    ensures refused { IfErr result (λ f. IsThe (refusal_in f)
+        (place_fault scoping.now (rules_view rules.entry) (is_in kept.now) (node_doc program.now))) }
 {
-    if let Some(misplaced) = first_misplacement(alloc, program, scoping)? {
+    if let Some(misplaced) = first_misplacement(alloc, program, scoping, rules)? {
         return Err(misplaced_fault(alloc, program, misplaced)?);
     }
     if let Some(member) = first_wide(program, scoping) {
         return Err(Fault::Wide { span: member.span });
     }
-    if let Some(captured) = first_capture(alloc, program, scoping, kept)? {
+    if let Some(captured) = first_capture(alloc, program, scoping, rules, kept)? {
         return Err(captured_fault(alloc, program, captured)?);
     }
     Ok(())
@@ -157,22 +185,34 @@ fn place_text(alloc: Global, program: &Node, number: NodeId) -> Result<Name, Out
     }
 }
 
-/// The plan for the program, in which that is kept.
+/// The list of these nodes, which stand as they are elsewhere too.
+fn list_of(alloc: Global, nodes: &[NodeId]) -> Result<NodeList, OutOfMemory>
+    ensures { IfOk result (λ list. list ≡ numbers_in nodes.now) }
+{
+    let mut copy = Vec::new(alloc);
+    copy.extend_from_slice(nodes)?;
+    NodeList::of(alloc, copy)
+}
+
+/// The plan for the program, in which these nodes are kept, the same as `kept` lists.
 fn plan_by(
     alloc: Global,
     program: &Node,
     scoping: &Scoping,
-    kept: NodeList,
+    kept: &NodeList,
+    nodes: Vec<NodeId>,
     options: &TransformOptions,
 ) -> Result<Plan, OutOfMemory>
+    requires { numbers_in nodes.items ≡ kept.now }
     ensures { IfOk result
-        (λ plan. Answers plan (facts_by kept scoping.now (node_doc program.now) (transform_view options.now))) }
+        (λ plan. Answers plan (facts_by kept.now scoping.now (node_doc program.now) (transform_view options.now))) }
 {
     let typescript = &options.typescript;
     let mut lists = PlanLists::empty(alloc);
     lists.first = first_blocks(alloc, program, scoping)?;
-    lists.inlined = inlined_expressions(alloc, program, scoping, &kept, typescript)?;
-    lists.dropped = dropped_blocks(alloc, program, scoping, &kept, typescript)?;
-    lists.kept = kept.into_nodes();
+    lists.inlined = inlined_expressions(alloc, program, scoping, kept, typescript)?;
+    lists.dropped = dropped_blocks(alloc, program, scoping, kept, typescript)?;
+    lists.never_written = never_written_nodes(alloc, program, scoping)?;
+    lists.kept = nodes;
     Plan::new(alloc, lists)
 }

@@ -23,16 +23,13 @@ pub enum Fault {
     /// The JSON is no tree: `place` is the pointer of the first wrong value.
     #[error("no tree at {place:?}", place = .place.as_str())]
     Shape { place: Name },
-    /// The tree has a form that is not built yet: `kind` names the first.
-    #[error("not built yet: {kind:?}", kind = .kind.as_str())]
-    Unbuilt { kind: Name },
     /// A node stands where it cannot be lowered.
     #[error("a misplaced node at {place:?}", place = .place.as_str())]
     Misplaced { kind: MisplacedKind, place: Name },
     /// The constant of a member of an enum, which stands there, would be larger than the largest.
     #[error("the constant of the member at {start}..{end} would be too large", start = .span.start, end = .span.end)]
     Wide { span: Span },
-    /// A name would change its owner, once the declaration that it means is erased.
+    /// A name would change its owner or a word its meaning, once declarations are erased and code moves.
     #[error("the name {name:?} at {place:?} would be captured", name = .name.as_str(), place = .place.as_str())]
     Captured { name: Name, place: Name },
     /// The lowered tree failed its certificate, and was thrown away.
@@ -75,7 +72,6 @@ impl Fault {
             Fault::OutOfMemory => Ok(None),
             Fault::Json => Ok(Some(String::from_str(alloc, "json\n")?)),
             Fault::Shape { place } => Ok(Some(named_line(alloc, "shape ", place.as_str())?)),
-            Fault::Unbuilt { kind } => Ok(Some(named_line(alloc, "unbuilt ", kind.as_str())?)),
             Fault::Misplaced { kind, place } => {
                 Ok(Some(placed_line(alloc, "misplaced ", kind_text(*kind), place.as_str())?))
             }
@@ -120,6 +116,9 @@ fn kind_text(kind: MisplacedKind) -> &'static str
         MisplacedKind::Namespace => "namespace",
         MisplacedKind::Merge => "merge",
         MisplacedKind::Enum => "enum",
+        MisplacedKind::Super => "super",
+        MisplacedKind::Key => "key",
+        MisplacedKind::Field => "field",
         MisplacedKind::Decorator => "decorator",
     }
 }

@@ -8,6 +8,7 @@ pub mod diagnose;
 pub mod fault;
 pub mod laws;
 mod misplacement;
+pub mod named;
 mod push;
 mod seat;
 mod sight;
@@ -18,6 +19,10 @@ mod wrapped;
 pub use check_program::check;
 pub use diagnose::diagnostics_of;
 pub use fault::{Fault, Mismatch, MisplacedKind};
+pub use named::{
+    ambient_module_nested, export_assignment_cannot_bed_used_in_esm,
+    import_equals_cannot_be_used_in_esm, namespace_exporting_non_const, namespace_not_supported,
+};
 pub use oxt_options::lists::PlanLists;
 pub use oxt_options::plan::Plan;
 pub use oxt_options::{

@@ -1,22 +1,26 @@
 //! The first misplaced node of a program, of all kinds.
 ghost use Rattle.std.specs.Prelude.{◌≡◌, IfOk, option_map};
-ghost use Rattle.oxt_check.specs.Misplacements.{first_misplacement, former, is_before, named_misplacement, of_kind, rank};
+ghost use Rattle.oxt_check.specs.Misplacements.{class_misplacement, element_kind, first_misplacement, former, is_before, named_misplacement, of_element, of_kind, rank};
+ghost use Rattle.oxt_class_checks.specs.Misplaced.{element_view};
 ghost use Rattle.oxt_faults.specs.Misplaced.{misplaced_view};
+ghost use Rattle.oxt_fields.specs.Rules.{rules_view};
 ghost use Rattle.oxt_tree.specs.View.{node_doc};
 
+use oxt_class_checks::misplaced::{ClassFault, MisplacedElement, first_misplaced_element};
 use oxt_enum_checks::clash::first_clash;
 use oxt_enum_checks::late_base::first_late_base;
 use oxt_enum_checks::misnamed::first_misnamed;
 use oxt_faults::misplaced::{Misplaced, MisplacedKind, first_misplaced};
+use oxt_fields::rules::FieldRules;
 use oxt_scoping::scoping::Scoping;
 use oxt_tree::ids::{NodeId, OutOfMemory};
 use oxt_tree::tree::Node;
 use std::alloc::Global;
 
 /// The misplaced node of the least number: what stands where it may not, a function or class behind a namespace of its
-/// name, a declaration that does not merge with an earlier one of its name, and a member of an enum, or a bare name of
-/// one, that cannot be lowered. Of several kinds at one node it is the first in their order. `scoping` is the table of
-/// the program.
+/// name, a declaration that does not merge with an earlier one of its name, a member of an enum, or a bare name of one,
+/// that cannot be lowered, and an element of a class that cannot be lowered by the rules of fields. Of several kinds at one
+/// node it is the first in their order. `scoping` is the table of the program.
 ///
 /// # Errors
 ///
@@ -25,12 +29,14 @@ pub fn first_misplacement(
     alloc: Global,
     program: &Node,
     scoping: &Scoping,
+    rules: FieldRules,
 ) -> Result<Option<Misplaced>, OutOfMemory>
     ensures { IfOk result (λ found. option_map misplaced_view found
-        ≡ first_misplacement scoping.now (node_doc program.now)) }
+        ≡ first_misplacement scoping.now (rules_view rules.entry) (node_doc program.now)) }
 {
     let named = named_misplacement(alloc, program, scoping)?;
-    Ok(former(first_misplaced(program), named))
+    let of_class = class_misplacement(program, rules);
+    Ok(former(first_misplaced(program), former(named, of_class)))
 }
 
 /// The first that names decide.
@@ -50,6 +56,36 @@ fn named_misplacement(
         of_kind(MisplacedKind::Enum, misnamed),
     );
     Ok(former(of_kind(MisplacedKind::Namespace, late), merged))
+}
+
+/// The first that classes decide.
+fn class_misplacement(program: &Node, rules: FieldRules) -> Option<Misplaced>
+    ensures { option_map misplaced_view result
+        ≡ class_misplacement (rules_view rules.entry) (node_doc program.now) }
+{
+    of_element(first_misplaced_element(program, rules))
+}
+
+/// The element of a class, as misplaced.
+fn of_element(element: Option<MisplacedElement>) -> Option<Misplaced>
+    ensures { option_map misplaced_view result ≡ option_map of_element (option_map element_view element) }
+{
+    let element = element?;
+    Some(Misplaced {
+        kind: element_kind(element.fault),
+        node: element.node,
+    })
+}
+
+/// What is misplaced where that is wrong with an element of a class.
+fn element_kind(fault: ClassFault) -> MisplacedKind
+    ensures { result ≡ element_kind fault }
+{
+    match fault {
+        ClassFault::Super => MisplacedKind::Super,
+        ClassFault::Key => MisplacedKind::Key,
+        ClassFault::Field => MisplacedKind::Field,
+    }
 }
 
 /// The node, as misplaced in that way.
@@ -94,6 +130,9 @@ fn rank(kind: MisplacedKind) -> u8
         MisplacedKind::Namespace => 1,
         MisplacedKind::Merge => 2,
         MisplacedKind::Enum => 3,
-        MisplacedKind::Decorator => 4,
+        MisplacedKind::Super => 4,
+        MisplacedKind::Key => 5,
+        MisplacedKind::Field => 6,
+        MisplacedKind::Decorator => 7,
     }
 }

@@ -1,11 +1,15 @@
 //! Collects what the writer of a program is told, in the order of the text.
 ghost use Rattle.std.specs.Prelude.{◌≡◌, ◌++◌, map, OnOk};
 ghost use Rattle.oxt_grammar.specs.Field.{row_view};
-ghost use Rattle.oxt_check.specs.Diagnostics.{found_at, told_among, told_below, told_if, told_in, told_of_code, told_of_module, told_of_namespace, wrapper_stays};
+ghost use Rattle.oxt_check.specs.Diagnostics.{told_among, told_below, told_if, told_in, told_of_code, told_of_module, told_of_namespace, wrapper_stays};
 ghost use Rattle.oxt_options.specs.Facts.{is_in};
 ghost use Rattle.oxt_options.specs.Options.{transform_view};
 ghost use Rattle.oxt_tree.specs.View.{docs_in, node_doc, part_doc};
 
+use crate::named::{
+    ambient_module_nested, export_assignment_cannot_bed_used_in_esm,
+    import_equals_cannot_be_used_in_esm, namespace_exporting_non_const, namespace_not_supported,
+};
 use crate::seat::Seat;
 use crate::sight::{Sight, is_changing, is_nested_module};
 use crate::wrapped::is_wrapped_target;
@@ -114,23 +118,11 @@ fn tell_of_namespace(
         (docs_in node.now.parts.items)) }
 {
     let is_unsupported = sight.is_unsupported(seat, node);
-    tell_if(
-        told,
-        is_unsupported,
-        found_at(DiagnosticKind::NamespaceNotSupported, node),
-    )?;
+    tell_if(told, is_unsupported, namespace_not_supported(node.span))?;
     let is_nested = is_nested_module(seat, node);
-    tell_if(
-        told,
-        is_nested,
-        found_at(DiagnosticKind::AmbientModuleNested, node),
-    )?;
+    tell_if(told, is_nested, ambient_module_nested(node.span))?;
     let is_changing = is_changing(seat, node.kind);
-    tell_if(
-        told,
-        is_changing,
-        found_at(DiagnosticKind::NamespaceExportingNonConst, node),
-    )
+    tell_if(told, is_changing, namespace_exporting_non_const(node.span))
 }
 
 /// Appends what is told of the node itself, which is no erased code.
@@ -159,17 +151,11 @@ fn tell_of_module(
         node.now.span.start node.now.span.end (docs_in node.now.parts.items)) }
 {
     let is_import = sight.is_import_in_esm(node);
-    tell_if(
-        told,
-        is_import,
-        found_at(DiagnosticKind::ImportEqualsInEsm, node),
-    )?;
+    let at_import = import_equals_cannot_be_used_in_esm(node.span);
+    tell_if(told, is_import, at_import)?;
     let is_export = sight.is_export_in_esm(node);
-    tell_if(
-        told,
-        is_export,
-        found_at(DiagnosticKind::ExportAssignmentInEsm, node),
-    )
+    let at_export = export_assignment_cannot_bed_used_in_esm(node.span);
+    tell_if(told, is_export, at_export)
 }
 
 /// Appends the diagnostic, where that is so.
@@ -184,16 +170,6 @@ fn tell_if(
         told.push(diagnostic)?;
     }
     Ok(())
-}
-
-/// A diagnostic of that kind at the place of the node.
-fn found_at(kind: DiagnosticKind, node: &Node) -> OxcDiagnostic
-    ensures { result ≡ found_at kind node.now.span.start node.now.span.end }
-{
-    OxcDiagnostic {
-        kind,
-        span: Some(node.span),
-    }
 }
 
 /// That syntax of types stays around a target.

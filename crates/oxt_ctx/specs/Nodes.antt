@@ -1,7 +1,8 @@
 -- Nodes that are made.
-use Rattle.std.specs.Prelude.{ℕ, List, codes, false}
+use Rattle.std.specs.Prelude.{ℕ, ◌+◌, List, [], ◌∷◌, codes, false, Option}
 use Rattle.oxt_grammar.specs.declared.kind.Kind.{Kind}
 use Rattle.oxt_grammar.specs.declared.kind.Kind.TheVariants as kind
+use Rattle.oxt_stores.specs.Frame.{binding, declaration, declarator}
 use Rattle.oxt_tree.specs.Doc.{Doc, nil, flag, number, text, list, node, Docs, no_docs, doc}
 
 -- a node that has no place in a source text
@@ -59,3 +60,7 @@ statement n e = made kind.ExpressionStatement n (doc e no_docs)
 -- `return e;`
 abbrev pub returned : ℕ → Doc → Doc
 returned n e = made kind.ReturnStatement n (doc e no_docs)
+
+-- `word t = value;`, or without a value `word t;`
+abbrev pub variable : ℕ → List ℕ → List ℕ → Option Doc → Doc
+variable n word t value = declaration (n + 2) word (declarator (n + 1) (binding n t) value ∷ [])

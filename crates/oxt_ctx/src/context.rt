@@ -242,7 +242,7 @@ impl TraverseCtx {
     }
 
     /// Where memory comes from.
-    pub(crate) fn memory(&self) -> Global {
+    pub fn memory(&self) -> Global {
         self.alloc
     }
 }

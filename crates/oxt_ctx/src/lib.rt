@@ -4,7 +4,9 @@
 
 pub mod ancestor;
 pub mod bound;
+pub mod constructor;
 pub mod context;
+pub mod keys;
 mod makers;
 pub mod maybe;
 pub mod nodes;

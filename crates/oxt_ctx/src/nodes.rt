@@ -1,8 +1,9 @@
 //! Nodes that are made, which have no place in a source text.
-ghost use Rattle.std.specs.Prelude.{◌≡◌, IfOk};
-ghost use Rattle.oxt_ctx.specs.Nodes.{access, alternative, assignment, computed, empty_object, made, member, negative, number_literal, property_name, returned, statement, string_literal, sum};
+ghost use Rattle.std.specs.Prelude.{◌≡◌, ◌+◌, ◌≤◌, IfOk, OnOk, option_map};
+ghost use Rattle.oxt_ctx.specs.Nodes.{access, alternative, assignment, computed, empty_object, made, member, negative, number_literal, property_name, returned, statement, string_literal, sum, variable};
 ghost use Rattle.oxt_ctx.specs.Made.{reference};
-ghost use Rattle.oxt_stores.specs.Frame.{binding};
+ghost use Rattle.oxt_stores.specs.Frame.{binding, declarator};
+ghost use Rattle.oxt_grammar.specs.Words.{text_of};
 ghost use Rattle.oxt_tree.specs.Names.{name_bytes};
 ghost use Rattle.oxt_tree.specs.View.{docs_in, node_doc};
 
@@ -17,6 +18,8 @@ use std::vec;
 /// A node of these parts.
 pub fn make(kind: Kind, parts: Vec<Part>, ids: &mut NodeIds) -> Result<Node, OutOfMemory>
     ensures made { IfOk result (λ node. node_doc node ≡ made kind ids.old.next (docs_in parts.items)) }
+    ensures used { OnOk result (ids.new.next ≡ ids.old.next + 1) }
+    ensures risen { ids.old.next ≤ ids.new.next }
 {
     Ok(Node {
         kind,
@@ -29,6 +32,8 @@ pub fn make(kind: Kind, parts: Vec<Part>, ids: &mut NodeIds) -> Result<Node, Out
 /// A name that is used, of which the table of names does not know yet.
 pub fn reference(alloc: Global, name: &Name, ids: &mut NodeIds) -> Result<Node, OutOfMemory>
     ensures made { IfOk result (λ node. node_doc node ≡ reference ids.old.next (name_bytes name.now)) }
+    ensures used { OnOk result (ids.new.next ≡ ids.old.next + 1) }
+    ensures risen { ids.old.next ≤ ids.new.next }
 {
     let parts = vec![in alloc; Part::Text(name.share()?)]?;
     make(Kind::IdentifierReference, parts, ids)
@@ -37,6 +42,8 @@ pub fn reference(alloc: Global, name: &Name, ids: &mut NodeIds) -> Result<Node, 
 /// A name that is bound.
 pub fn binding(alloc: Global, name: &Name, ids: &mut NodeIds) -> Result<Node, OutOfMemory>
     ensures made { IfOk result (λ node. node_doc node ≡ binding ids.old.next (name_bytes name.now)) }
+    ensures used { OnOk result (ids.new.next ≡ ids.old.next + 1) }
+    ensures risen { ids.old.next ≤ ids.new.next }
 {
     let parts = vec![in alloc; Part::Text(name.share()?)]?;
     make(Kind::BindingIdentifier, parts, ids)
@@ -45,6 +52,8 @@ pub fn binding(alloc: Global, name: &Name, ids: &mut NodeIds) -> Result<Node, Ou
 /// The name of a property.
 pub fn property_name(alloc: Global, name: &Name, ids: &mut NodeIds) -> Result<Node, OutOfMemory>
     ensures made { IfOk result (λ node. node_doc node ≡ property_name ids.old.next (name_bytes name.now)) }
+    ensures used { OnOk result (ids.new.next ≡ ids.old.next + 1) }
+    ensures risen { ids.old.next ≤ ids.new.next }
 {
     let parts = vec![in alloc; Part::Text(name.share()?)]?;
     make(Kind::IdentifierName, parts, ids)
@@ -53,6 +62,8 @@ pub fn property_name(alloc: Global, name: &Name, ids: &mut NodeIds) -> Result<No
 /// A text.
 pub fn string_literal(alloc: Global, text: &Name, ids: &mut NodeIds) -> Result<Node, OutOfMemory>
     ensures made { IfOk result (λ node. node_doc node ≡ string_literal ids.old.next (name_bytes text.now)) }
+    ensures used { OnOk result (ids.new.next ≡ ids.old.next + 1) }
+    ensures risen { ids.old.next ≤ ids.new.next }
 {
     let parts = vec![in alloc; Part::Text(text.share()?), Part::Nothing]?;
     make(Kind::StringLiteral, parts, ids)
@@ -61,6 +72,8 @@ pub fn string_literal(alloc: Global, text: &Name, ids: &mut NodeIds) -> Result<N
 /// A whole number.
 pub fn number_literal(alloc: Global, value: u64, ids: &mut NodeIds) -> Result<Node, OutOfMemory>
     ensures made { IfOk result (λ node. node_doc node ≡ number_literal ids.old.next value) }
+    ensures used { OnOk result (ids.new.next ≡ ids.old.next + 1) }
+    ensures risen { ids.old.next ≤ ids.new.next }
 {
     let parts = vec![in alloc; Part::Number(value), Part::Nothing]?;
     make(Kind::NumericLiteral, parts, ids)
@@ -69,6 +82,8 @@ pub fn number_literal(alloc: Global, value: u64, ids: &mut NodeIds) -> Result<No
 /// `-e`.
 pub fn negative(alloc: Global, operand: Node, ids: &mut NodeIds) -> Result<Node, OutOfMemory>
     ensures made { IfOk result (λ node. node_doc node ≡ negative ids.old.next (node_doc operand)) }
+    ensures used { OnOk result (ids.new.next ≡ ids.old.next + 1) }
+    ensures risen { ids.old.next ≤ ids.new.next }
 {
     let operator = Name::new(alloc, "-")?;
     let parts = vec![in alloc; Part::Text(operator), Part::Node(operand)]?;
@@ -84,6 +99,8 @@ pub fn member(
 ) -> Result<Node, OutOfMemory>
     ensures made { IfOk result (λ node. node_doc node
         ≡ member ids.old.next (node_doc object) (node_doc property)) }
+    ensures used { OnOk result (ids.new.next ≡ ids.old.next + 1) }
+    ensures risen { ids.old.next ≤ ids.new.next }
 {
     access(alloc, Kind::StaticMemberExpression, object, property, ids)
 }
@@ -97,6 +114,8 @@ pub fn computed(
 ) -> Result<Node, OutOfMemory>
     ensures made { IfOk result (λ node. node_doc node
         ≡ computed ids.old.next (node_doc object) (node_doc key)) }
+    ensures used { OnOk result (ids.new.next ≡ ids.old.next + 1) }
+    ensures risen { ids.old.next ≤ ids.new.next }
 {
     access(alloc, Kind::ComputedMemberExpression, object, key, ids)
 }
@@ -111,6 +130,8 @@ fn access(
 ) -> Result<Node, OutOfMemory>
     ensures made { IfOk result (λ node. node_doc node
         ≡ access kind ids.old.next (node_doc object) (node_doc key)) }
+    ensures used { OnOk result (ids.new.next ≡ ids.old.next + 1) }
+    ensures risen { ids.old.next ≤ ids.new.next }
 {
     let parts = vec![in alloc; Part::Node(object), Part::Node(key), Part::Flag(false)]?;
     make(kind, parts, ids)
@@ -125,6 +146,8 @@ pub fn assignment(
 ) -> Result<Node, OutOfMemory>
     ensures made { IfOk result (λ node. node_doc node
         ≡ assignment ids.old.next (node_doc target) (node_doc value)) }
+    ensures used { OnOk result (ids.new.next ≡ ids.old.next + 1) }
+    ensures risen { ids.old.next ≤ ids.new.next }
 {
     let operator = Name::new(alloc, "=")?;
     let parts = vec![in alloc; Part::Text(operator), Part::Node(target), Part::Node(value)]?;
@@ -135,6 +158,8 @@ pub fn assignment(
 pub fn sum(alloc: Global, left: Node, right: Node, ids: &mut NodeIds) -> Result<Node, OutOfMemory>
     ensures made { IfOk result (λ node. node_doc node
         ≡ sum ids.old.next (node_doc left) (node_doc right)) }
+    ensures used { OnOk result (ids.new.next ≡ ids.old.next + 1) }
+    ensures risen { ids.old.next ≤ ids.new.next }
 {
     let operator = Name::new(alloc, "+")?;
     let parts = vec![in alloc; Part::Text(operator), Part::Node(left), Part::Node(right)]?;
@@ -150,6 +175,8 @@ pub fn alternative(
 ) -> Result<Node, OutOfMemory>
     ensures made { IfOk result (λ node. node_doc node
         ≡ alternative ids.old.next (node_doc left) (node_doc right)) }
+    ensures used { OnOk result (ids.new.next ≡ ids.old.next + 1) }
+    ensures risen { ids.old.next ≤ ids.new.next }
 {
     let operator = Name::new(alloc, "||")?;
     let parts = vec![in alloc; Part::Text(operator), Part::Node(left), Part::Node(right)]?;
@@ -159,6 +186,8 @@ pub fn alternative(
 /// `{}`.
 pub fn empty_object(alloc: Global, ids: &mut NodeIds) -> Result<Node, OutOfMemory>
     ensures made { IfOk result (λ node. node_doc node ≡ empty_object ids.old.next) }
+    ensures used { OnOk result (ids.new.next ≡ ids.old.next + 1) }
+    ensures risen { ids.old.next ≤ ids.new.next }
 {
     let parts = vec![in alloc; Part::List(Vec::new(alloc))]?;
     make(Kind::ObjectExpression, parts, ids)
@@ -167,6 +196,8 @@ pub fn empty_object(alloc: Global, ids: &mut NodeIds) -> Result<Node, OutOfMemor
 /// `e;`.
 pub fn statement(alloc: Global, expression: Node, ids: &mut NodeIds) -> Result<Node, OutOfMemory>
     ensures made { IfOk result (λ node. node_doc node ≡ statement ids.old.next (node_doc expression)) }
+    ensures used { OnOk result (ids.new.next ≡ ids.old.next + 1) }
+    ensures risen { ids.old.next ≤ ids.new.next }
 {
     let parts = vec![in alloc; Part::Node(expression)]?;
     make(Kind::ExpressionStatement, parts, ids)
@@ -175,6 +206,8 @@ pub fn statement(alloc: Global, expression: Node, ids: &mut NodeIds) -> Result<N
 /// `return e;`.
 pub fn returned(alloc: Global, expression: Node, ids: &mut NodeIds) -> Result<Node, OutOfMemory>
     ensures made { IfOk result (λ node. node_doc node ≡ returned ids.old.next (node_doc expression)) }
+    ensures used { OnOk result (ids.new.next ≡ ids.old.next + 1) }
+    ensures risen { ids.old.next ≤ ids.new.next }
 {
     let parts = vec![in alloc; Part::Node(expression)]?;
     make(Kind::ReturnStatement, parts, ids)
@@ -187,7 +220,12 @@ pub fn declaration(
     name: &Name,
     value: Option<Node>,
     ids: &mut NodeIds,
-) -> Result<Node, OutOfMemory> {
+) -> Result<Node, OutOfMemory>
+    ensures made { IfOk result (λ node. node_doc node
+        ≡ variable ids.old.next (text_of keyword) (name_bytes name.now) (option_map node_doc value)) }
+    ensures used { OnOk result (ids.new.next ≡ ids.old.next + 3) }
+    ensures risen { ids.old.next ≤ ids.new.next }
+{
     let declared = declarator(alloc, name, value, ids)?;
     let parts = vec![in alloc;
         Part::Word(keyword),
@@ -203,7 +241,12 @@ fn declarator(
     name: &Name,
     value: Option<Node>,
     ids: &mut NodeIds,
-) -> Result<Node, OutOfMemory> {
+) -> Result<Node, OutOfMemory>
+    ensures made { IfOk result (λ node. node_doc node
+        ≡ declarator (ids.old.next + 1) (binding ids.old.next (name_bytes name.now)) (option_map node_doc value)) }
+    ensures used { OnOk result (ids.new.next ≡ ids.old.next + 2) }
+    ensures risen { ids.old.next ≤ ids.new.next }
+{
     let pattern = binding(alloc, name, ids)?;
     let init = match value {
         Some(value) => Part::Node(value),

@@ -15,6 +15,7 @@
 //! export * from "./worker.mjs";
 //! const later = import(`../later.js`);
 //! ```
+ghost use Rattle.std.specs.Prelude.{◌≡◌, option_map};
 
 use crate::parts::{field_mut, put_field};
 use oxt_ctx::context::TraverseCtx;
@@ -37,7 +38,9 @@ pub struct TypeScriptRewriteExtensions {
 
 impl TypeScriptRewriteExtensions {
     /// The pass with these options; none where they leave extensions as they are.
-    pub fn new(options: &TypeScriptOptions) -> Option<TypeScriptRewriteExtensions> {
+    pub fn new(options: &TypeScriptOptions) -> Option<TypeScriptRewriteExtensions>
+        ensures { option_map (λ pass. pass.mode) result ≡ options.now.rewrite_import_extensions }
+    {
         match options.rewrite_import_extensions {
             Some(mode) => Some(TypeScriptRewriteExtensions { mode }),
             None => None,

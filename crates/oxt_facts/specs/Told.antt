@@ -1,7 +1,7 @@
 -- What is told of the nodes of a source that are read otherwise than by the rules of their kinds: of the blocks of its
 -- enums, of their members, of the bare names that mean members, of the expressions that are inlined, of what goes (blocks of
--- enums that are dropped, imports, exports and specifiers), of a program that is made strict, and of the specifiers of modules
--- that are rewritten.
+-- enums that are dropped, imports, exports, specifiers and fields), of a program that is made strict, of the specifiers of modules
+-- that are rewritten, and of classes and fields whose values move.
 use Rattle.std.specs.Prelude.{ℕ, List, map, Bool, nat_eq, Option, option_map}
 use Rattle.std.specs.Map.{lookup}
 use Rattle.oxt_facts.specs.declared.told.MemberValue.{MemberValue}
@@ -9,6 +9,8 @@ use Rattle.oxt_facts.specs.declared.told.MemberValue.TheVariants as member_value
 use Rattle.oxt_facts.specs.declared.told.Told.{Told}
 use Rattle.oxt_facts.specs.declared.told.Told.TheVariants as told
 use Rattle.oxt_facts.specs.declared.told.ToldBlock.{ToldBlock}
+use Rattle.oxt_facts.specs.declared.told.ToldClass.{ToldClass}
+use Rattle.oxt_facts.specs.declared.told.ToldField.{ToldField}
 use Rattle.oxt_facts.specs.declared.told.ToldMember.{ToldMember}
 use Rattle.oxt_facts.specs.declared.told.ToldName.{ToldName}
 use Rattle.oxt_facts.specs.declared.told.ToldNamespace.{ToldNamespace}
@@ -54,12 +56,31 @@ pub record Namespace : Type 0 where
 abbrev pub Names : Type 0
 Names = List (List ℕ × Option ℕ)
 
+-- the body of a class whose constructor puts more on the object than is written in it: the names of the empty fields that stand
+-- in front of its own, the parameters that are put on the object, how many of the constructor's statements stand before what is
+-- put, whether the source has a constructor with a body, and whether the class extends another
+pub record Gaining : Type 0 where
+  pub fields : List (List ℕ)
+  pub properties : Names
+  pub place : ℕ
+  pub has_constructor : Bool
+  pub is_derived : Bool
+
+-- a field whose value is put elsewhere: whether that is on the class, whether the field itself stays without its value, and the
+-- tag by which the value of its key is kept, if it is
+pub record Moving : Type 0 where
+  pub is_static : Bool
+  pub stays : Bool
+  pub tag : Option (List ℕ)
+
 -- what is told of a node: of a bare name, the name and the group of the enum whose member it means; of an expression that is
 -- inlined its constant, and of a specifier of a module that is rewritten its text; `gone`, that the node does nothing;
 -- `listless`, that it is an import that loses its whole list and stays for what its module does; `strict`, that it is a program
 -- before whose directives the one stands by which all its code is strict; `quasi`, the texts of a piece of a template; `export`,
 -- of an export in a namespace the tag of the block in which it stands, and the names that are put on the block's object behind
--- it; `stored`, of a declarator that such an export holds, the tag and the name under which its value is put
+-- it; `stored`, of a declarator that such an export holds, the tag and the name under which its value is put; `gains`, of the body
+-- of a class, what its constructor puts on the object; `moves`, of a field, where its value is put; `leaves_key`, that a field
+-- goes, but for the effects of its key
 pub data Telling : Type 0 where
   block : Block → Telling
   member : Member → Telling
@@ -72,6 +93,9 @@ pub data Telling : Type 0 where
   space : Namespace → Telling
   export : List ℕ → Names → Telling
   stored : List ℕ → List ℕ → Telling
+  gains : Gaining → Telling
+  moves : Moving → Telling
+  leaves_key : Telling
 
 -- what is told of nodes, by their numbers
 abbrev pub Tellings : Type 0
@@ -99,6 +123,12 @@ namespace_view s = record { name = name_bytes s.name; group = s.group; tag = nam
 abbrev pub names_view : List ToldName → Names
 names_view ns = map (λ n. (name_bytes n.name, n.group)) ns
 
+abbrev pub gaining_view : ToldClass → Gaining
+gaining_view c = record { fields = map name_bytes c.fields.items; properties = names_view c.properties.items; place = c.place; has_constructor = c.has_constructor; is_derived = c.is_derived }
+
+abbrev pub moving_view : ToldField → Moving
+moving_view f = record { is_static = f.is_static; stays = f.stays; tag = option_map name_bytes f.tag }
+
 abbrev pub told_view : Told → Telling
 told_view (told.Block b) = block (block_view b)
 told_view (told.Member m) = member (member_view m)
@@ -111,6 +141,9 @@ told_view (told.Quasi q) = quasi (option_map name_bytes q.raw) (option_map name_
 told_view (told.Namespace s) = space (namespace_view s)
 told_view (told.Export e) = export (name_bytes e.tag) (names_view e.names.items)
 told_view (told.Stored s) = stored (name_bytes s.tag) (name_bytes s.name)
+told_view (told.Gains c) = gains (gaining_view c)
+told_view (told.Moves f) = moves (moving_view f)
+told_view told.LeavesKey = leaves_key
 
 abbrev pub told_views : List (ℕ × Told) → Tellings
 told_views es = map (λ e. (e.0, told_view e.1)) es

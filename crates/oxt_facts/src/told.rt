@@ -100,6 +100,32 @@ pub struct ToldStored {
     pub name: Name,
 }
 
+/// What is told of the body of a class that has parameter properties or fields that move into its constructor.
+#[derive(Debug, Drop)]
+pub struct ToldClass {
+    /// The names of the empty fields that stand in front of its own.
+    pub fields: Vec<Name>,
+    /// The parameters that the constructor puts on the object.
+    pub properties: Vec<ToldName>,
+    /// How many of the constructor's statements stand before what is put.
+    pub place: usize,
+    /// Whether a constructor with a body stands in the source.
+    pub has_constructor: bool,
+    /// Whether the class extends another.
+    pub is_derived: bool,
+}
+
+/// What is told of a field whose value is put where it moves to.
+#[derive(Debug, Drop)]
+pub struct ToldField {
+    /// Whether it is put on the class, in a static block.
+    pub is_static: bool,
+    /// Whether the field itself stays, without its value.
+    pub stays: bool,
+    /// The tag by which the value of its key is kept, if it is.
+    pub tag: Option<Name>,
+}
+
 /// What is told of a node.
 #[derive(Debug, Drop)]
 pub enum Told {
@@ -126,6 +152,12 @@ pub enum Told {
     Export(ToldExport),
     /// It is a declarator whose value is put on the object of a namespace too.
     Stored(ToldStored),
+    /// It is the body of a class whose constructor puts more on the object than is written in it.
+    Gains(ToldClass),
+    /// It is a field whose value is put elsewhere.
+    Moves(ToldField),
+    /// It is a field that goes, but for the effects of its key.
+    LeavesKey,
 }
 
 /// What is told of nodes, by their numbers.

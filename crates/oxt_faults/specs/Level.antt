@@ -2,10 +2,12 @@
 use Rattle.std.specs.Prelude.{ℕ, Bool, false, ◌&&◌, ◌||◌, if◌then◌else◌, Option, None, Some, option_map, codes}
 use Rattle.oxt_faults.specs.Reaches.{reach_of}
 use Rattle.oxt_faults.specs.Silent.{is_silent}
-use Rattle.oxt_faults.specs.Words.{word_at}
+use Rattle.oxt_faults.specs.Words.{changes, word_at}
 use Rattle.oxt_faults.specs.declared.level.Around.{Around}
 use Rattle.oxt_faults.specs.declared.level.FoundWord.{FoundWord}
 use Rattle.oxt_faults.specs.declared.reach.Reach.TheVariants as reach
+use Rattle.oxt_faults.specs.declared.word.Destination.{Destination}
+use Rattle.oxt_faults.specs.declared.word.Destination.TheVariants as destination
 use Rattle.oxt_faults.specs.declared.word.LevelWord.{LevelWord}
 use Rattle.oxt_search.specs.First.{first_among, first_in}
 use Rattle.oxt_search.specs.Sought.{Sought}
@@ -33,16 +35,22 @@ found_view f = (f.word, f.node.0)
 abbrev pub at_number : ℕ → LevelWord → LevelWordAt
 at_number i w = (w, i)
 
--- the word that a node is itself; `own` says that an async arrow around it gives `await` its own meaning
-abbrev pub found_at : Bool → Kind → ℕ → Docs → Option LevelWordAt
-found_at own k i ds = option_map (at_number i) (word_at own k ds)
+-- the word, if it would mean something else there
+abbrev pub changed : Destination → Option LevelWord → Option LevelWord
+changed m None = None
+changed m (Some w) = if changes m w then Some w else None
+
+-- The word that a node is itself, if it would mean something else there; `own` says that an async arrow around it gives
+-- `await` its own meaning.
+abbrev pub found_at : Destination → Bool → Kind → ℕ → Docs → Option LevelWordAt
+found_at m own k i ds = option_map (at_number i) (changed m (word_at own k ds))
 
 -- code at the level itself
 abbrev pub at_level : Around
 at_level = record { reach = reach.Level; owns_await = false }
 
-abbrev pub word_here : Around → Kind → ℕ → Docs → Option LevelWordAt
-word_here a k i ds = if is_silent a.reach k ds then None else found_at a.owns_await k i ds
+abbrev pub word_here : Destination → Around → Kind → ℕ → Docs → Option LevelWordAt
+word_here m a k i ds = if is_silent a.reach k ds then None else found_at m a.owns_await k i ds
 
 abbrev pub word_inside : Around → Kind → ℕ → Docs → Inside Around
 word_inside a k i ds =
@@ -52,14 +60,19 @@ word_inside a k i ds =
 abbrev pub around_field : Around → Kind → Field → Option Around
 around_field a k r = Some (record { reach = reach_of a.reach k r; owns_await = a.owns_await })
 
--- each word that is no erased code, no type, and reached at the level
-abbrev pub sought : Sought Around LevelWordAt
-sought = record { at = word_here; inside = word_inside; in_field = around_field }
+-- each word that is no erased code, no type, and reached at the level, and that would mean something else there
+abbrev pub sought : Destination → Sought Around LevelWordAt
+sought m = record { at = word_here m; inside = word_inside; in_field = around_field }
 
--- the first at the level of a document: a node comes before those in it
+-- The first at the level of a document that would mean something else where the document goes: a node comes before those
+-- in it.
+abbrev pub moved_word : Destination → Doc → Option LevelWordAt
+moved_word m d = first_in (sought m) d at_level
+
+-- the first of all words at the level of a document
 abbrev pub level_word : Doc → Option LevelWordAt
-level_word d = first_in sought d at_level
+level_word d = moved_word destination.Deeper d
 
 -- the first at the level of documents that stand one after the other, as those of a body
 abbrev pub level_words : Docs → Option LevelWordAt
-level_words ds = first_among sought ds at_level
+level_words ds = first_among (sought destination.Deeper) ds at_level

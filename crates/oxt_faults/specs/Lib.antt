@@ -1,11 +1,17 @@
+pub mod Around
 pub mod Captured
+pub mod Earliest
 pub mod Free
+pub mod Hidden
 pub mod Initializers
 pub mod Level
 pub mod Marks
 pub mod Misplaced
+pub mod Moved
 pub mod Namespaces
 pub mod Reaches
+pub mod Redeclared
 pub mod Seats
 pub mod Silent
+pub mod Waiting
 pub mod Words

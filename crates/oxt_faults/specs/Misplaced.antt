@@ -77,7 +77,7 @@ is_misplaced_decorator seat.ParameterDecorator k = same_kind k kind.Decorator
 is_misplaced_decorator s k = false
 
 -- A node of that kind and with those fields is misplaced in a seat, by kind. The others are no matter of the seat:
--- the names of the program decide them.
+-- the names of the program decide them, or a class as a whole.
 abbrev pub is_misplaced : Seat → Kind → Docs → MisplacedKind → Bool
 is_misplaced s k ds misplaced_kind.Body = is_misplaced_body s k ds
 is_misplaced s k ds misplaced_kind.Namespace = is_misplaced_item s k ds

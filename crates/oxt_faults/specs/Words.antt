@@ -1,5 +1,7 @@
 -- Words whose meaning the function around them gives.
-use Rattle.std.specs.Prelude.{ℕ, List, Bool, true, not, ◌&&◌, if◌then◌else◌, Option, None, Some, codes}
+use Rattle.std.specs.Prelude.{ℕ, List, Bool, true, false, not, ◌&&◌, if◌then◌else◌, Option, None, Some, codes}
+use Rattle.oxt_faults.specs.declared.word.Destination.{Destination}
+use Rattle.oxt_faults.specs.declared.word.Destination.TheVariants as destination
 use Rattle.oxt_faults.specs.declared.word.LevelWord.{LevelWord}
 use Rattle.oxt_faults.specs.declared.word.LevelWord.TheVariants as word
 use Rattle.oxt_grammar.specs.declared.kind.Kind.{Kind}
@@ -15,6 +17,18 @@ text_of_word word.NewTarget = codes "new.target"
 text_of_word word.Arguments = codes "arguments"
 text_of_word word.Await = codes "await"
 text_of_word word.Yield = codes "yield"
+
+-- The words that would mean something else in code that goes there: all in what stands deeper; in a constructor and in a
+-- static block `this` and `super` are what they are in the value of a field, and in a static block `new.target` is too.
+abbrev pub changes : Destination → LevelWord → Bool
+changes destination.Deeper w = true
+changes destination.Constructor word.This = false
+changes destination.Constructor word.Super = false
+changes destination.Constructor w = true
+changes destination.StaticBlock word.This = false
+changes destination.StaticBlock word.Super = false
+changes destination.StaticBlock word.NewTarget = false
+changes destination.StaticBlock w = true
 
 -- that word, where it stands there
 abbrev pub where_word : Bool → LevelWord → Option LevelWord

@@ -1,11 +1,11 @@
 //! The first word at the level of a piece of code.
 ghost use Rattle.std.specs.Prelude.{◌≡◌, option_map};
-ghost use Rattle.oxt_faults.specs.Level.{LevelWordAt, at_level, found_at, found_view, level_word, level_words, owns_await, sought};
+ghost use Rattle.oxt_faults.specs.Level.{LevelWordAt, at_level, changed, found_at, found_view, level_word, level_words, moved_word, owns_await, sought};
 ghost use Rattle.oxt_tree.specs.View.{doc_or_nil, docs_in, node_doc};
 
 use crate::reach::{Reach, reach_of};
 use crate::silent::is_silent;
-use crate::word::{LevelWord, word_at};
+use crate::word::{Destination, LevelWord, word_at};
 use oxt_grammar::field::Field;
 use oxt_grammar::holds::Row;
 use oxt_grammar::kind::Kind;
@@ -38,14 +38,20 @@ pub struct Around {
 pub fn first_level_word(node: &Node) -> Option<FoundWord>
     ensures { option_map found_view result ≡ level_word (node_doc node.now) }
 {
-    first_in(&LevelWords, node, at_level())
+    let words = LevelWords {
+        destination: Destination::Deeper,
+    };
+    first_in(&words, node, at_level())
 }
 
 /// The first word at the level of the parts, as of a body.
 pub fn first_level_word_in(parts: &[Part]) -> Option<FoundWord>
     ensures { option_map found_view result ≡ level_words (docs_in parts.now) }
 {
-    first_among(&LevelWords, parts, at_level())
+    let words = LevelWords {
+        destination: Destination::Deeper,
+    };
+    first_among(&words, parts, at_level())
 }
 
 /// The first word at the level of the part, if there is one.
@@ -55,6 +61,18 @@ pub fn first_level_word_at(part: Option<&Part>) -> Option<FoundWord>
     match part {
         Some(Part::Node(node)) => first_level_word(node),
         Some(Part::List(parts)) => first_level_word_in(parts),
+        _ => None,
+    }
+}
+
+/// The first word at the level of the part that would mean something else where the part goes, if there is one.
+pub fn first_moved_word(destination: Destination, part: Option<&Part>) -> Option<FoundWord>
+    ensures { option_map found_view result ≡ moved_word destination (doc_or_nil part.entry) }
+{
+    let words = LevelWords { destination };
+    match part {
+        Some(Part::Node(node)) => first_in(&words, node, at_level()),
+        Some(Part::List(parts)) => first_among(&words, parts.as_slice(), at_level()),
         _ => None,
     }
 }
@@ -69,9 +87,11 @@ fn at_level() -> Around
     }
 }
 
-/// The search for such words.
+/// The search for the words that would mean something else where the code goes.
 #[derive(Clone, Copy)]
-struct LevelWords;
+struct LevelWords {
+    destination: Destination,
+}
 
 impl Search for LevelWords {
     type State = Around;
@@ -82,7 +102,7 @@ impl Search for LevelWords {
 
     ghost view = { found_view };
 
-    ghost sought = { λ _. sought };
+    ghost sought = { λ search. sought search.destination };
 
     fn visit(&self, node: &Node, around: Around) -> Visit<FoundWord, Around> {
         if is_silent(around.reach, node) {
@@ -92,7 +112,7 @@ impl Search for LevelWords {
             }
         } else {
             Visit {
-                found: found_at(around.owns_await, node),
+                found: found_at(self.destination, around.owns_await, node),
                 inside: Inside::ByField(Around {
                     reach: around.reach,
                     owns_await: owns_await(around.owns_await, node),
@@ -109,16 +129,28 @@ impl Search for LevelWords {
     }
 }
 
-/// The word that the node itself is, with its number.
-fn found_at(owns_await: bool, node: &Node) -> Option<FoundWord>
+/// The word that the node itself is, with its number, if it would mean something else there.
+fn found_at(destination: Destination, owns_await: bool, node: &Node) -> Option<FoundWord>
     ensures { option_map found_view result
-        ≡ found_at owns_await node.now.kind node.now.id.0 (docs_in node.now.parts.items) }
+        ≡ found_at destination owns_await node.now.kind node.now.id.0 (docs_in node.now.parts.items) }
 {
-    let word = word_at(owns_await, node)?;
+    let word = changed(destination, word_at(owns_await, node))?;
     Some(FoundWord {
         word,
         node: node.id,
     })
+}
+
+/// The word, if it would mean something else there.
+fn changed(destination: Destination, word: Option<LevelWord>) -> Option<LevelWord>
+    ensures { result ≡ changed destination word }
+{
+    let word = word?;
+    if destination.changes(word) {
+        Some(word)
+    } else {
+        None
+    }
 }
 
 /// Whether `await` has a meaning of its own in the node: one around it gives it that, or it is an async arrow.

@@ -2,15 +2,21 @@
 //! at the level of a piece of code, which would mean something else where the code is moved.
 #![tactic(auto)]
 
+pub mod around;
 pub mod captured;
+pub mod earliest;
 pub mod free;
+mod hidden;
 pub mod initializer;
 pub mod level;
 pub mod misplaced;
+pub mod moved;
 pub mod namespace;
 mod outside;
-mod reach;
+pub mod reach;
+mod redeclared;
 mod rules;
 mod seat;
-mod silent;
+pub mod silent;
+mod waiting;
 pub mod word;

@@ -5,7 +5,8 @@
 //! `is_misplaced`, in `rules` and with the same names in specs/Misplaced.antt; its word on the line of standard error is
 //! in `kind_text` of `oxt_check`. What the test has to know of the nodes around is handed down in the state of the
 //! search, `Seat`. `Merge` and `Enum`, and a function or a class behind a namespace of its name, which the table of names
-//! decides, are found by `oxt_enum_checks`.
+//! decides, are found by `oxt_enum_checks`; `Super`, `Key` and `Field`, which a class decides as a whole, by
+//! `oxt_class_checks`.
 ghost use Rattle.std.specs.Prelude.{◌≡◌, find, option_map};
 ghost use Rattle.oxt_faults.specs.Misplaced.{Misplacement, is_misplaced, misplaced, misplaced_at, misplaced_kinds, misplaced_view, sought};
 ghost use Rattle.oxt_tree.specs.View.{docs_in, node_doc};
@@ -32,6 +33,13 @@ pub enum MisplacedKind {
     Merge,
     /// It is a member whose name is not its own, or a bare name of one where its value cannot stand.
     Enum,
+    /// It is the constructor of a derived class that takes on fields, and calls `super` otherwise than once and as a
+    /// statement of its own.
+    Super,
+    /// It is a field whose key is computed where no key of the class may be.
+    Key,
+    /// It is a field with decorators that moves or goes, or one that moves beside an `accessor` with a value.
+    Field,
     /// It decorates what has no decorators.
     Decorator,
 }

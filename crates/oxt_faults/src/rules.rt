@@ -25,7 +25,8 @@ pub fn misplaced_kinds() -> &'static [MisplacedKind]
     ]
 }
 
-/// Whether the node is misplaced in that seat, by kind; never in a kind that the table of names decides.
+/// Whether the node is misplaced in that seat, by kind; never in a kind that the table of names or a class as a whole
+/// decides.
 pub fn is_misplaced(kind: MisplacedKind, seat: Seat, node: &Node) -> bool
     ensures { result ≡ is_misplaced seat node.now.kind (docs_in node.now.parts.items) kind }
 {
@@ -35,6 +36,9 @@ pub fn is_misplaced(kind: MisplacedKind, seat: Seat, node: &Node) -> bool
         MisplacedKind::Decorator => is_misplaced_decorator(seat, node),
         MisplacedKind::Merge => false,
         MisplacedKind::Enum => false,
+        MisplacedKind::Super => false,
+        MisplacedKind::Key => false,
+        MisplacedKind::Field => false,
     }
 }
 

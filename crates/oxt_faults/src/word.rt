@@ -1,6 +1,6 @@
 //! Words whose meaning the function around them gives.
 ghost use Rattle.std.specs.Prelude.{◌≡◌};
-ghost use Rattle.oxt_faults.specs.Words.{awaited, text_of_word, where_word, word_at};
+ghost use Rattle.oxt_faults.specs.Words.{awaited, changes, text_of_word, where_word, word_at};
 ghost use Rattle.oxt_tree.specs.View.{docs_in};
 
 use oxt_grammar::field::Field;
@@ -36,6 +36,40 @@ impl LevelWord {
             LevelWord::Arguments => "arguments",
             LevelWord::Await => "await",
             LevelWord::Yield => "yield",
+        }
+    }
+}
+
+/// Where code goes, by which some words in it would mean something else.
+#[derive(Clone, Copy, Debug, PartialEq, Eq)]
+pub enum Destination {
+    /// A function or a static block, in which code around it goes.
+    Deeper,
+    /// The constructor of a class, in which the value of a field of it goes.
+    Constructor,
+    /// A static block of a class, in which the value of a static field of it goes.
+    StaticBlock,
+}
+
+impl Destination {
+    /// Whether the word would mean something else there. In a constructor and in a static block `this` and `super` are
+    /// what they are in the value of a field, and in a static block `new.target` is too.
+    pub fn changes(self, word: LevelWord) -> bool
+        ensures { result ≡ changes self word }
+    {
+        match self {
+            Destination::Deeper => true,
+            Destination::Constructor => match word {
+                LevelWord::This => false,
+                LevelWord::Super => false,
+                _ => true,
+            },
+            Destination::StaticBlock => match word {
+                LevelWord::This => false,
+                LevelWord::Super => false,
+                LevelWord::NewTarget => false,
+                _ => true,
+            },
         }
     }
 }

@@ -30,11 +30,14 @@ flags =
     with_value (codes "jsx-pragma")
     ∷ with_value (codes "jsx-pragma-frag")
     ∷ with_value (codes "module")
+    ∷ alone (codes "no-declare-fields")
     ∷ alone (codes "no-namespaces")
     ∷ alone (codes "only-remove-type-imports")
     ∷ alone (codes "optimize-const-enums")
     ∷ alone (codes "optimize-enums")
+    ∷ alone (codes "remove-empty-fields")
     ∷ with_value (codes "rewrite-extensions")
+    ∷ alone (codes "set-public-class-fields")
     ∷ []
 
 -- ---- what the words give
@@ -130,11 +133,14 @@ options_by value is_used «module» extensions = record transform_defaults {
     jsx_pragma_frag = unwrap_or (value (codes "jsx-pragma-frag")) typescript_defaults.jsx_pragma_frag;
     only_remove_type_imports = is_used (codes "only-remove-type-imports");
     allow_namespaces = not (is_used (codes "no-namespaces"));
+    allow_declare_fields = not (is_used (codes "no-declare-fields"));
+    remove_class_fields_without_initializer = is_used (codes "remove-empty-fields");
     optimize_const_enums = is_used (codes "optimize-const-enums");
     optimize_enums = is_used (codes "optimize-enums");
     rewrite_import_extensions = extensions;
   };
   «module» = «module»;
+  set_public_class_fields = is_used (codes "set-public-class-fields");
 }
 
 -- the same with the words themselves; none where one is none of its list

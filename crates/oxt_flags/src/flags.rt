@@ -18,6 +18,8 @@ pub const JSX_PRAGMA: &str = "jsx-pragma";
 pub const JSX_PRAGMA_FRAG: &str = "jsx-pragma-frag";
 /// The module system that the program is written for, by its word.
 pub const MODULE: &str = "module";
+/// Fields without a value are removed.
+pub const NO_DECLARE_FIELDS: &str = "no-declare-fields";
 /// Namespaces are not lowered.
 pub const NO_NAMESPACES: &str = "no-namespaces";
 /// Only imports that say so themselves are imports of types.
@@ -26,8 +28,12 @@ pub const ONLY_REMOVE_TYPE_IMPORTS: &str = "only-remove-type-imports";
 pub const OPTIMIZE_CONST_ENUMS: &str = "optimize-const-enums";
 /// The same for other enums.
 pub const OPTIMIZE_ENUMS: &str = "optimize-enums";
+/// Fields without a value are removed.
+pub const REMOVE_EMPTY_FIELDS: &str = "remove-empty-fields";
 /// What becomes of TypeScript's extensions in the names of modules, by its word.
 pub const REWRITE_EXTENSIONS: &str = "rewrite-extensions";
+/// Public fields are set by assignment.
+pub const SET_PUBLIC_CLASS_FIELDS: &str = "set-public-class-fields";
 
 /// All flags.
 pub fn flags() -> &'static [Flag]
@@ -47,6 +53,10 @@ pub fn flags() -> &'static [Flag]
             takes_value: true,
         },
         Flag {
+            name: NO_DECLARE_FIELDS,
+            takes_value: false,
+        },
+        Flag {
             name: NO_NAMESPACES,
             takes_value: false,
         },
@@ -63,8 +73,16 @@ pub fn flags() -> &'static [Flag]
             takes_value: false,
         },
         Flag {
+            name: REMOVE_EMPTY_FIELDS,
+            takes_value: false,
+        },
+        Flag {
             name: REWRITE_EXTENSIONS,
             takes_value: true,
+        },
+        Flag {
+            name: SET_PUBLIC_CLASS_FIELDS,
+            takes_value: false,
         },
     ]
 }

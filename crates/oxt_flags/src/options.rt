@@ -9,8 +9,8 @@ ghost use Rattle.oxt_tree.specs.Names.{name_bytes};
 
 use crate::choices::{chosen_extensions, chosen_module};
 use crate::flags::{
-    JSX_PRAGMA, JSX_PRAGMA_FRAG, NO_NAMESPACES, ONLY_REMOVE_TYPE_IMPORTS, OPTIMIZE_CONST_ENUMS,
-    OPTIMIZE_ENUMS,
+    JSX_PRAGMA, JSX_PRAGMA_FRAG, NO_DECLARE_FIELDS, NO_NAMESPACES, ONLY_REMOVE_TYPE_IMPORTS,
+    OPTIMIZE_CONST_ENUMS, OPTIMIZE_ENUMS, REMOVE_EMPTY_FIELDS, SET_PUBLIC_CLASS_FIELDS,
 };
 use crate::matching::{matched, value_of};
 use clap::ArgMatches;
@@ -84,6 +84,7 @@ fn options_for(
 {
     let mut options = TransformOptions::defaults(alloc)?;
     options.module = module;
+    options.set_public_class_fields = is_used(matches, SET_PUBLIC_CLASS_FIELDS);
     let typescript = &mut options.typescript;
     set_text(alloc, matches, JSX_PRAGMA, &mut typescript.jsx_pragma)?;
     set_text(
@@ -94,6 +95,8 @@ fn options_for(
     )?;
     typescript.only_remove_type_imports = is_used(matches, ONLY_REMOVE_TYPE_IMPORTS);
     typescript.allow_namespaces = !is_used(matches, NO_NAMESPACES);
+    typescript.allow_declare_fields = !is_used(matches, NO_DECLARE_FIELDS);
+    typescript.remove_class_fields_without_initializer = is_used(matches, REMOVE_EMPTY_FIELDS);
     typescript.optimize_const_enums = is_used(matches, OPTIMIZE_CONST_ENUMS);
     typescript.optimize_enums = is_used(matches, OPTIMIZE_ENUMS);
     typescript.rewrite_import_extensions = extensions;

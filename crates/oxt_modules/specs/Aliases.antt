@@ -41,10 +41,6 @@ alias_search =
 abbrev pub aliases : Doc → List Alias
 aliases d = all_in alias_search d false
 
--- a declaration `import a = ..` that is not kept, as none of types alone is
-abbrev pub is_left_out : (ℕ → Bool) → Kind → ℕ → Bool
-is_left_out ks k i = same_kind k kind.TSImportEqualsDeclaration && not (ks i)
-
 -- the number of the name of a declaration that is not kept
 abbrev pub left_out_name : (ℕ → Bool) → Alias → List ℕ
 left_out_name ks a = if not (ks a.node.0) then a.name.0 ∷ [] else []

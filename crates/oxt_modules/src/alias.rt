@@ -1,6 +1,6 @@
 //! The declarations `import a = ..`.
 ghost use Rattle.std.specs.Prelude.{◌≡◌, ◌++◌, IfOk, OnOk, Some};
-ghost use Rattle.oxt_modules.specs.Aliases.{alias_at, alias_named, alias_search, aliases, is_alias, is_left_out, is_required, left_out, left_out_name, left_out_names};
+ghost use Rattle.oxt_modules.specs.Aliases.{alias_at, alias_named, alias_search, aliases, is_alias, is_required, left_out, left_out_name, left_out_names};
 ghost use Rattle.oxt_modules.specs.declared.alias.Alias.{Alias};
 ghost use Rattle.oxt_options.specs.Facts.{is_in};
 ghost use Rattle.oxt_options.specs.Lists.{numbers_in};
@@ -104,13 +104,6 @@ fn alias_named(is_exported: bool, node: NodeId, name: Option<&Part>) -> Option<A
         }),
         _ => None,
     }
-}
-
-/// Whether the node is a declaration `import a = ..` that is not kept, as none of types alone is.
-pub fn is_left_out(kept: &NodeList, node: &Node) -> bool
-    ensures { result ≡ is_left_out (is_in kept.now) node.now.kind node.now.id.0 }
-{
-    node.kind.is(Kind::TSImportEqualsDeclaration) && !kept.has(node.id)
 }
 
 /// The names of those of the program that are not kept.

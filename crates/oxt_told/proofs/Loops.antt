@@ -4,9 +4,8 @@ use Rattle.indexmap.specs.IndexMap.{insert_entry}
 use Rattle.oxt_facts.specs.Told.{Tellings}
 use Rattle.oxt_scoping.specs.Scoped.{Scoped, live_at}
 use Rattle.oxt_names.specs.declared.ids.ReferenceId.{ReferenceId}
-use Rattle.oxt_options.specs.declared.rewrite.RewriteExtensionsMode.{RewriteExtensionsMode}
 use Rattle.oxt_told.specs.Modules.{specifier_told, specifiers_told, statement_told, statements_told}
-use Rattle.oxt_told.specs.Source.{Around, Asked, all_told, bare_at, bares, member_bares, member_name, member_told, members_bares, members_told, told_in, told_in_each}
+use Rattle.oxt_told.specs.Source.{Around, Asked, Chosen, all_told, bare_at, bares, member_bares, member_name, member_told, members_bares, members_told, told_in, told_in_each}
 use Rattle.oxt_told.specs.declared.seat.Seat.{Seat}
 use Rattle.oxt_told.specs.Syntax.{is_text_form, some_text_form}
 use Rattle.oxt_tree.proofs.Lists.{drop_at, drop_end}
@@ -82,16 +81,16 @@ pub ruleset bare_steps = (bare_more, bare_done)
 
 -- ---- what stands in parts
 
-pub each_more : (s : Scoped) (f : Asked) (m : Option RewriteExtensionsMode) (q : Seat) (ts new : Tellings) (ps : List Part) (i : ℕ) (p : Part) → i < length ps → p ≡ get_or ps i p
-    → new ≡ all_told ts (told_in s f m q (part_doc p))
-    → all_told ts (told_in_each s f m q (docs_in (drop i ps))) ≡ all_told new (told_in_each s f m q (docs_in (drop (i + 1) ps)))
-each_more s f m q ts new ps i p lt here told =
-    ap (λ qs. all_told ts (told_in_each s f m q (docs_in qs))) (drop_at ps i p lt here)
-    ∙ all_told-append ts (told_in s f m q (part_doc p)) (told_in_each s f m q (docs_in (drop (i + 1) ps)))
-    ∙ ap (λ x. all_told x (told_in_each s f m q (docs_in (drop (i + 1) ps)))) (sym told)
+pub each_more : (s : Scoped) (f : Asked) (c : Chosen) (q : Seat) (ts new : Tellings) (ps : List Part) (i : ℕ) (p : Part) → i < length ps → p ≡ get_or ps i p
+    → new ≡ all_told ts (told_in s f c q (part_doc p))
+    → all_told ts (told_in_each s f c q (docs_in (drop i ps))) ≡ all_told new (told_in_each s f c q (docs_in (drop (i + 1) ps)))
+each_more s f c q ts new ps i p lt here told =
+    ap (λ qs. all_told ts (told_in_each s f c q (docs_in qs))) (drop_at ps i p lt here)
+    ∙ all_told-append ts (told_in s f c q (part_doc p)) (told_in_each s f c q (docs_in (drop (i + 1) ps)))
+    ∙ ap (λ x. all_told x (told_in_each s f c q (docs_in (drop (i + 1) ps)))) (sym told)
 
-pub each_done : (s : Scoped) (f : Asked) (m : Option RewriteExtensionsMode) (q : Seat) (ts : Tellings) (ps : List Part) (i : ℕ) → length ps ≤ i → all_told ts (told_in_each s f m q (docs_in (drop i ps))) ≡ ts
-each_done s f m q ts ps i le = ap (λ qs. all_told ts (told_in_each s f m q (docs_in qs))) (drop_end ps i le)
+pub each_done : (s : Scoped) (f : Asked) (c : Chosen) (q : Seat) (ts : Tellings) (ps : List Part) (i : ℕ) → length ps ≤ i → all_told ts (told_in_each s f c q (docs_in (drop i ps))) ≡ ts
+each_done s f c q ts ps i le = ap (λ qs. all_told ts (told_in_each s f c q (docs_in qs))) (drop_end ps i le)
 
 pub ruleset each_steps = (each_more, each_done)
 

@@ -1,5 +1,5 @@
 -- Blocks of namespaces, and the names that they export.
-use Rattle.std.proofs.Common.{◌≡◌, ◌∙◌, refl, sym, ap, ℕ, ◌+◌, ◌<◌, ◌≤◌, List, [], ◌∷◌, ◌++◌, Bool, map, length, get_or, drop, append_assoc, append-nil, Option, None, Some, option_map, nat_eq}
+use Rattle.std.proofs.Common.{◌≡◌, ◌∙◌, refl, sym, ap, ℕ, ◌+◌, ◌<◌, ◌≤◌, List, [], ◌∷◌, ◌++◌, Bool, length, get_or, drop, append_assoc, append-nil, Option, None, Some, option_map, nat_eq}
 use Rattle.std.specs.Prelude.{slice_get}
 use Rattle.indexmap.specs.IndexMap.{insert_entry}
 use Rattle.oxt_facts.specs.Told.{Names, Namespace, Tellings, names_view, space}

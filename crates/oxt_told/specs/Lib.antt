@@ -1,3 +1,4 @@
+pub mod Classes
 pub mod Extensions
 pub mod Groups
 pub mod Modules
@@ -6,4 +7,5 @@ pub mod Source
 pub mod Strict
 pub mod Symbols
 pub mod Syntax
+pub mod Taken
 pub mod Whole

@@ -1,5 +1,5 @@
 -- What is told of the enums of a source, of the expressions that are inlined, of what its `import =` and the specifiers of
--- its modules become, by its table of scopes and symbols, by its plan, and by how extensions are rewritten.
+-- its modules become, and of its classes, by its table of scopes and symbols, by its plan, and by what is chosen.
 use Rattle.std.specs.Prelude.{ℕ, ◌==◌, List, [], ◌∷◌, ◌++◌, Bool, true, false, not, ◌&&◌, if◌then◌else◌, nat_eq, Option, None, Some, codes}
 use Rattle.indexmap.specs.IndexMap.{insert_entry}
 use Rattle.oxt_facts.specs.Told.{Tellings, Value, block, member, bare, inlined, gone, constant, following, written}
@@ -8,19 +8,21 @@ use Rattle.oxt_options.specs.Facts.{Facts, constant_at, is_in}
 use Rattle.oxt_options.specs.declared.rewrite.RewriteExtensionsMode.{RewriteExtensionsMode}
 use Rattle.oxt_scoping.specs.Entries.{SymbolData}
 use Rattle.oxt_scoping.specs.Scoped.{Scoped, live_at}
-use Rattle.oxt_scoping.specs.declared.entry.Redeclaration.{Redeclaration}
 use Rattle.oxt_scoping.specs.declared.entry.Reference.{Reference}
 use Rattle.oxt_names.specs.Constant.{Constant, integer, string}
 use Rattle.oxt_names.specs.declared.ids.ReferenceId.{ReferenceId}
 use Rattle.oxt_grammar.specs.Places.{same_kind}
 use Rattle.oxt_grammar.specs.declared.kind.Kind.{Kind}
 use Rattle.oxt_grammar.specs.declared.kind.Kind.TheVariants as kind
+use Rattle.oxt_fields.specs.Rules.{Rules, rules_of, rules_view}
+use Rattle.oxt_options.specs.Options.{TransformData}
+use Rattle.oxt_told.specs.Classes.{class_told, is_class}
 use Rattle.oxt_told.specs.Extensions.{extension_told, has_source}
 use Rattle.oxt_told.specs.Namespaces.{seat_told, seat_inside}
 use Rattle.oxt_told.specs.Symbols.{first_node, named_symbol}
 use Rattle.oxt_told.specs.declared.seat.Seat.{Seat}
-use Rattle.oxt_told.specs.declared.seat.Seat.TheVariants as seat
 use Rattle.oxt_told.specs.Syntax.{is_pure, is_text_form}
+use Rattle.oxt_told.specs.declared.told.Source.{Source}
 use Rattle.oxt_tree.specs.Doc.{Doc, nil, flag, number, text, list, node, Docs, no_docs, doc}
 use Rattle.oxt_told.specs.declared.members.EnumAround.{EnumAround}
 use Rattle.oxt_tree.specs.Fields.{elements, field_of, is_nil, named}
@@ -115,18 +117,38 @@ members_bares s a (doc d ds) = member_bares s a d ++ members_bares s a ds
 
 -- ---- blocks
 
--- what the plan says of nodes by their numbers: which specifiers are kept, which blocks are first, which are dropped, and
--- which expressions are inlined
+-- what the plan says of nodes by their numbers: which specifiers are kept, which blocks are first, which are dropped, which
+-- expressions are inlined, and which are names that nothing writes to
 pub record Asked : Type 0 where
   pub kept : ℕ → Bool
   pub first : ℕ → Bool
   pub dropped : ℕ → Bool
   pub inlined : ℕ → Option Constant
+  pub never : ℕ → Bool
 
 -- what a plan that knows that says
 abbrev pub asked_of : Facts → Asked
 asked_of p =
-    record { kept = is_in p.kept; first = is_in p.first; dropped = is_in p.dropped; inlined = constant_at p.inlined }
+    record {
+      kept = is_in p.kept;
+      first = is_in p.first;
+      dropped = is_in p.dropped;
+      inlined = constant_at p.inlined;
+      never = is_in p.never_written;
+    }
+
+-- what is chosen for the whole source: how extensions are rewritten, and the rules by which fields are lowered
+pub record Chosen : Type 0 where
+  pub mode : Option RewriteExtensionsMode
+  pub rules : Rules
+
+-- what the options choose for a source of whose nodes that is asked
+abbrev pub chosen_of : TransformData → Asked → Chosen
+chosen_of o p = record { mode = o.typescript.rewrite_import_extensions; rules = rules_of o p.never p.inlined }
+
+-- the same as the program has it
+abbrev pub chosen_in : Source → Chosen
+chosen_in source = record { mode = source.mode; rules = rules_view source.rules }
 
 -- a block of that number with these members, whose enum's symbol that is
 abbrev pub block_told : Scoped → Asked → ℕ → Docs → Option SymbolData → Tellings
@@ -169,28 +191,29 @@ abbrev pub unkept_told : (ℕ → Bool) → ℕ → Tellings
 unkept_told ks i = if ks i then [] else (i, gone) ∷ []
 
 -- a node that stands there: an expression that is inlined, a block of an enum, an `import =`, one that has a module's
--- specifier, or what namespaces become
-abbrev pub own_told : Scoped → Asked → Option RewriteExtensionsMode → Seat → Kind → ℕ → Docs → Tellings
-own_told s p m q k i ds =
+-- specifier, a class, or what namespaces become
+abbrev pub own_told : Scoped → Asked → Chosen → Seat → Kind → ℕ → Docs → Tellings
+own_told s p c q k i ds =
     if may_be_inlined k then inlined_told i (p.inlined i)
     else if same_kind k kind.TSEnumDeclaration then enum_told s p k i ds
     else if same_kind k kind.TSImportEqualsDeclaration then unkept_told p.kept i
-    else if has_source k then extension_told m (named (codes "source") k ds)
+    else if has_source k then extension_told c.mode (named (codes "source") k ds)
+    else if is_class k then class_told s c.rules k ds
     else seat_told s p.first q k i ds
 
 -- all these in a document that stands there
 abbrev mutual
-  pub told_in : Scoped → Asked → Option RewriteExtensionsMode → Seat → Doc → Tellings
-  told_in s p m q nil = []
-  told_in s p m q (flag b) = []
-  told_in s p m q (number n) = []
-  told_in s p m q (text t) = []
-  told_in s p m q (list ds) = told_in_each s p m q ds
-  told_in s p m q (node k i b e ds) = own_told s p m q k i ds ++ told_in_each s p m (seat_inside q k i) ds
+  pub told_in : Scoped → Asked → Chosen → Seat → Doc → Tellings
+  told_in s p c q nil = []
+  told_in s p c q (flag b) = []
+  told_in s p c q (number n) = []
+  told_in s p c q (text t) = []
+  told_in s p c q (list ds) = told_in_each s p c q ds
+  told_in s p c q (node k i b e ds) = own_told s p c q k i ds ++ told_in_each s p c (seat_inside q k i) ds
 
-  pub told_in_each : Scoped → Asked → Option RewriteExtensionsMode → Seat → Docs → Tellings
-  told_in_each s p m q no_docs = []
-  told_in_each s p m q (doc d ds) = told_in s p m q d ++ told_in_each s p m q ds
+  pub told_in_each : Scoped → Asked → Chosen → Seat → Docs → Tellings
+  told_in_each s p c q no_docs = []
+  told_in_each s p c q (doc d ds) = told_in s p c q d ++ told_in_each s p c q ds
 
 -- these tellings over those
 abbrev pub all_told : Tellings → Tellings → Tellings

@@ -1,5 +1,5 @@
 -- Whether a program is told to be strict.
-use Rattle.std.specs.Prelude.{ℕ, [], ◌∷◌, Bool, true, false, not, ◌&&◌, if◌then◌else◌, codes}
+use Rattle.std.specs.Prelude.{[], ◌∷◌, Bool, true, false, not, ◌&&◌, if◌then◌else◌, codes}
 use Rattle.std.specs.List.{list_any}
 use Rattle.oxt_facts.specs.Told.{Tellings, strict}
 use Rattle.oxt_grammar.specs.declared.kind.Kind.{Kind}

@@ -1,14 +1,16 @@
 //! What the reading of a tree is told of it: of a source, the imports, exports and specifiers that go, the blocks of its
 //! enums, their members, the bare names that mean members, the expressions that are inlined, the specifiers of modules that
-//! are rewritten, the blocks of namespaces and what they export, and whether it is made strict; and of any tree the groups of
-//! its names.
+//! are rewritten, the blocks of namespaces and what they export, classes and their fields, and whether it is made strict; and
+//! of any tree the groups of its names.
 #![tactic(auto)]
 
+mod classes;
 mod extensions;
 pub mod groups;
 mod members;
 mod modules;
 mod namespaces;
+mod properties;
 mod seat;
 mod strict;
 mod symbols;

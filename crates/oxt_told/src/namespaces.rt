@@ -242,7 +242,7 @@ fn has_one_name(kind: Kind) -> bool
 }
 
 /// The names that the part binds, if it is a node.
-fn node_names(alloc: Global, part: Option<&Part>) -> Result<Vec<BoundName>, OutOfMemory>
+pub fn node_names(alloc: Global, part: Option<&Part>) -> Result<Vec<BoundName>, OutOfMemory>
     ensures { IfOk result (λ names. bound_views names.items ≡ node_names (doc_or_nil part.entry)) }
 {
     match part {
@@ -319,7 +319,7 @@ fn push_names(
 
 /// The names, each with its group.
 #[tactic(auto, using(crate::proofs::Nested::group_more, crate::proofs::Nested::group_done))]
-fn with_groups(
+pub fn with_groups(
     alloc: Global,
     scoping: &Scoping,
     names: &[BoundName],

@@ -5,13 +5,14 @@ ghost use Rattle.oxt_facts.specs.Told.{block};
 ghost use Rattle.oxt_options.specs.Facts.{constant_at, is_in};
 ghost use Rattle.oxt_options.specs.Options.{transform_view};
 ghost use Rattle.oxt_told.specs.Modules.{modules_told};
-ghost use Rattle.oxt_told.specs.Source.{all_told, ambient_told, asked_of, block_told, enum_told, inlined_told, may_be_inlined, members_in, own_told, told_in, told_in_each};
+ghost use Rattle.oxt_told.specs.Source.{all_told, ambient_told, asked_of, block_told, chosen_in, enum_told, inlined_told, may_be_inlined, members_in, own_told, told_in, told_in_each};
 ghost use Rattle.oxt_told.specs.Strict.{strict_told};
 ghost use Rattle.oxt_told.specs.Symbols.{named_symbol};
 ghost use Rattle.oxt_told.specs.Whole.{told_of_source};
 ghost use Rattle.oxt_tree.specs.Names.{name_bytes};
 ghost use Rattle.oxt_tree.specs.View.{docs_in, node_doc, part_doc};
 
+use crate::classes::{is_class, tell_class};
 use crate::extensions::{has_source, tell_extension};
 use crate::members::{EnumAround, tell_members, tell_members_bares};
 use crate::modules::{tell_modules, tell_unkept};
@@ -21,6 +22,7 @@ use crate::strict::tell_strict;
 use crate::symbols::{around, named_symbol};
 use crate::syntax::is_pure;
 use oxt_facts::told::{Told, ToldBlock, ToldNodes};
+use oxt_fields::rules::FieldRules;
 use oxt_grammar::field::Field;
 use oxt_grammar::kind::Kind;
 use oxt_options::options::TransformOptions;
@@ -34,7 +36,8 @@ use std::alloc::Global;
 
 /// What is told under the options of the program, whose table of scopes and symbols is `scoping`: of its imports and exports,
 /// of the blocks of its enums, of their members and the bare names that mean these, of the expressions that are inlined, of
-/// its `import =`, as the plan says; of the specifiers of its modules, and of the program itself. With
+/// its `import =`, as the plan says; of the specifiers of its modules, of its classes and their fields, and of the program
+/// itself. With
 /// `only_remove_type_imports` an import stays that loses its whole list.
 ///
 /// # Errors
@@ -55,6 +58,7 @@ pub fn told_of_source(
         scoping,
         plan,
         mode: options.typescript.rewrite_import_extensions,
+        rules: FieldRules::new(options, plan),
     };
     let mut told = ToldNodes::new(alloc);
     match tell_all(&source, options, program, &mut told) {
@@ -74,6 +78,8 @@ pub struct Source<'a> {
     pub plan: &'a Plan,
     /// How extensions are rewritten.
     pub mode: Option<RewriteExtensionsMode>,
+    /// The rules by which fields are lowered.
+    pub rules: FieldRules<'a>,
 }
 
 /// Tells all of the program.
@@ -86,7 +92,7 @@ fn tell_all(
 ) -> Result<(), OutOfMemory>
     ensures { OnOk result (told.new ≡ all_told told.old
         (modules_told (is_in source.now.plan.now.kept) options.now.typescript.only_remove_type_imports (node_doc program.now)
-        ++ (told_in source.now.scoping.now (asked_of source.now.plan.now) source.now.mode Seat.Elsewhere (node_doc program.now)
+        ++ (told_in source.now.scoping.now (asked_of source.now.plan.now) (chosen_in source.now) Seat.Elsewhere (node_doc program.now)
         ++ strict_told options.now.«module» (node_doc program.now)))) }
 {
     let all = options.typescript.only_remove_type_imports;
@@ -104,7 +110,7 @@ fn tell_in_part(
     told: &mut ToldNodes,
 ) -> Result<(), OutOfMemory>
     ensures { OnOk result (told.new ≡ all_told told.old
-        (told_in source.now.scoping.now (asked_of source.now.plan.now) source.now.mode seat (part_doc part.now))) }
+        (told_in source.now.scoping.now (asked_of source.now.plan.now) (chosen_in source.now) seat (part_doc part.now))) }
 {
     match part {
         Part::Node(node) => tell_in_node(source, seat, node, told),
@@ -123,7 +129,7 @@ fn tell_in_node(
     told: &mut ToldNodes,
 ) -> Result<(), OutOfMemory>
     ensures { OnOk result (told.new ≡ all_told told.old
-        (told_in source.now.scoping.now (asked_of source.now.plan.now) source.now.mode seat (node_doc node.now))) }
+        (told_in source.now.scoping.now (asked_of source.now.plan.now) (chosen_in source.now) seat (node_doc node.now))) }
 {
     tell_own(source, seat, node, told)?;
     tell_in_each(source, seat.inside(node.kind, node.id.0), &node.parts, told)
@@ -139,7 +145,7 @@ fn tell_in_each(
     told: &mut ToldNodes,
 ) -> Result<(), OutOfMemory>
     ensures { OnOk result (told.new ≡ all_told told.old
-        (told_in_each source.now.scoping.now (asked_of source.now.plan.now) source.now.mode seat (docs_in parts.now))) }
+        (told_in_each source.now.scoping.now (asked_of source.now.plan.now) (chosen_in source.now) seat (docs_in parts.now))) }
 {
     for part in parts {
         tell_in_part(source, seat, part, told)?;
@@ -147,8 +153,8 @@ fn tell_in_each(
     Ok(())
 }
 
-/// Tells of the node, which stands there, if it is an expression that is inlined, a block of an enum, an `import =`, or has the
-/// specifier of a module, and of what namespaces become.
+/// Tells of the node, which stands there, if it is an expression that is inlined, a block of an enum, an `import =`, a class, or
+/// has the specifier of a module, and of what namespaces become.
 fn tell_own(
     source: &Source,
     seat: Seat,
@@ -156,7 +162,7 @@ fn tell_own(
     told: &mut ToldNodes,
 ) -> Result<(), OutOfMemory>
     ensures { OnOk result (told.new ≡ all_told told.old
-        (own_told source.now.scoping.now (asked_of source.now.plan.now) source.now.mode seat node.now.kind node.now.id.0
+        (own_told source.now.scoping.now (asked_of source.now.plan.now) (chosen_in source.now) seat node.now.kind node.now.id.0
         (docs_in node.now.parts.items))) }
 {
     if may_be_inlined(node.kind) {
@@ -167,6 +173,8 @@ fn tell_own(
         tell_unkept(source.plan, node.id, told)
     } else if has_source(node.kind) {
         tell_extension(source.alloc, source.mode, node.field(Field::Source), told)
+    } else if is_class(node.kind) {
+        tell_class(source, node, told)
     } else {
         tell_seat(source, seat, node, told)
     }

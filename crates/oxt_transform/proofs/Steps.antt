@@ -9,7 +9,7 @@ use Rattle.oxt_check.specs.Misplacements.{first_misplacement}
 use Rattle.oxt_enum_checks.specs.Wide.{wide}
 use Rattle.oxt_enum_checks.specs.declared.wide.WideMember.{WideMember}
 use Rattle.oxt_check.specs.Diagnostics.{diagnostics}
-use Rattle.oxt_check.specs.Faults.{IsFaultOf, captured_refusal, facts_of, misplaced_refusal, wide_refusal}
+use Rattle.oxt_check.specs.Faults.{IsFaultOf, captured_refusal, facts_of, misplaced_refusal, rules_by, wide_refusal}
 use Rattle.oxt_tree.specs.declared.diagnostic.OxcDiagnostic.{OxcDiagnostic}
 use Rattle.oxt_io.specs.Counts.{Rose}
 use Rattle.oxt_io.specs.Passed.{AppendsPrefix, GaveAll}
@@ -17,6 +17,7 @@ use Rattle.oxt_json.specs.Spelling.{no_value, wrong, tree, reading}
 use Rattle.oxt_json_write.specs.Spelled.{data_of, text_of}
 use Rattle.oxt_laws.specs.Laws.{TextTellsTrees}
 use Rattle.oxt_faults.specs.Misplaced.{Misplacement}
+use Rattle.oxt_fields.specs.Rules.{Rules}
 use Rattle.oxt_tree.specs.Syntax.{is_definition_file}
 use Rattle.oxt_options.specs.Options.{TransformData}
 use Rattle.oxt_modules.specs.Kept.{kept}
@@ -36,13 +37,12 @@ use Rattle.oxt_transform.specs.Faults.{refusal_in, IsReasonFor}
 use Rattle.oxt_transform.specs.Lowering.{IsTextOfOne, Lowers, Passes, ReturnsPlain, tells_of_wrapper}
 use Rattle.oxt_transform.specs.Outcomes.{AnswerCut, CutOff, IfRefused, IsAnswerUncertifiedOrMemory, IsRefusedMemoryOrWriteFault, LowersToLines, NothingStands, OnWriteFault, Reported, is_uncertified, limit, options_in}
 use Rattle.oxt_transform.specs.Plain.{ComesBack, as_javascript, is_left_alone, is_plain_source}
-use Rattle.oxt_transform.specs.Refusals.{Accepts, Difference, Hinders, IsHindrance, IsFailure, Judges, Refusal, Refuses, captured_name, is_plain_output, json, misplaced_node, shape, unbuilt_form, uncertified, wide_member}
+use Rattle.oxt_transform.specs.Refusals.{Accepts, Difference, Hinders, IsHindrance, IsFailure, Judges, Refusal, Refuses, captured_name, is_plain_output, json, misplaced_node, shape, uncertified, wide_member}
 use Rattle.oxt_transform.specs.Settings.{SettingsData, differs, has_exports, has_language, is_script, wrong_setting}
 use Rattle.oxt_transform.specs.declared.program.Outcome.{Outcome}
 use Rattle.oxt_transform.specs.declared.program.Outcome.TheVariants.{Done, Diagnosed, Refused, Usage, ReadFault, WriteFault, Memory, TooLong}
 use Rattle.oxt_tree.specs.Doc.{Doc}
 use Rattle.oxt_tree.specs.declared.name.Name.{Name}
-use Rattle.oxt_unbuilt.specs.Unbuilt.{unbuilt}
 use Rattle.oxt_valid.specs.Plain.{is_plain}
 use Rattle.oxt_valid.specs.Valid.{is_tree}
 use Rattle.serde_json.specs.Written.{IsInOrder}
@@ -68,7 +68,6 @@ faults_differ r o bytes source next read fault k =
 pub only_uncertified : (r : Refusal) (o : TransformData) (bytes : List ℕ) → Refuses r o bytes → Accepts o bytes → is_uncertified (Some r) ≡ true
 only_uncertified json o bytes h k = absurd (nothing_read bytes k.source k.next k.spelled h)
 only_uncertified (shape place) o bytes h k = absurd (wrongly_read bytes place k.source k.next k.spelled h)
-only_uncertified (unbuilt_form kind) o bytes h k = absurd (faults_differ (unbuilt_form kind) o bytes h.source h.next h.spelled h.cause k)
 only_uncertified (misplaced_node m place) o bytes h k = absurd (faults_differ (misplaced_node m place) o bytes h.source h.next h.spelled h.cause k)
 only_uncertified (wide_member span) o bytes h k = absurd (faults_differ (wide_member span) o bytes h.source h.next h.spelled h.cause k)
 only_uncertified (captured_name name place) o bytes h k = absurd (faults_differ (captured_name name place) o bytes h.source h.next h.spelled h.cause k)
@@ -144,6 +143,7 @@ asked_same known listed a =
     let first = fun_ext a.first in
     let dropped = fun_ext a.dropped in
     let inlined = fun_ext a.inlined in
+    let never = fun_ext a.never_written in
     cc
 
 module _ (o : TransformData) (source : Doc) (known : Facts) (s : Scoped) (table : s ≡ resolved source) (a : Answers known (facts_of s source o)) where
@@ -175,13 +175,12 @@ module _ (o : TransformData) (source output : Doc) (known : Facts) (s : Scoped) 
   failed None judged = tt
   failed (Some json) judged = absurd judged
   failed (Some (shape place)) judged = absurd judged
-  failed (Some (unbuilt_form kind)) judged = absurd judged
   failed (Some (misplaced_node m place)) judged = absurd judged
   failed (Some (wide_member span)) judged = absurd judged
   failed (Some (captured_name name place)) judged = absurd judged
   failed (Some (uncertified d)) judged = failed_so d judged
 
--- ---- a fault of a source is a form, a place or a name
+-- ---- a fault of a source is a place, a constant or a name
 
 false_true : false ≡ true → ⊥
 false_true e = cc
@@ -189,7 +188,6 @@ false_true e = cc
 abbrev is_of_source : Refusal → Bool
 is_of_source json = false
 is_of_source (shape place) = false
-is_of_source (unbuilt_form kind) = true
 is_of_source (misplaced_node m place) = true
 is_of_source (wide_member span) = true
 is_of_source (captured_name name place) = true
@@ -199,17 +197,20 @@ abbrev fits_source : Option Refusal → Bool
 fits_source None = true
 fits_source (Some r) = is_of_source r
 
-fits : (u : Option (List ℕ)) (b : Bool) (m : Option Misplacement) (w : Option WideMember) (c : Option Capture) (d : Doc)
-    → fits_source (option_or (option_map unbuilt_form u) (if b then None else option_or (option_map (misplaced_refusal d) m) (option_or (option_map wide_refusal w) (option_map (captured_refusal d) c)))) ≡ true
-fits (Some kind) b m w c d = refl
-fits None true m w c d = refl
-fits None false (Some x) w c d = refl
-fits None false None (Some x) c d = refl
-fits None false None None (Some x) d = refl
-fits None false None None None d = refl
+fits : (b : Bool) (m : Option Misplacement) (w : Option WideMember) (c : Option Capture) (d : Doc)
+    → fits_source (if b then None else option_or (option_map (misplaced_refusal d) m) (option_or (option_map wide_refusal w) (option_map (captured_refusal d) c))) ≡ true
+fits true m w c d = refl
+fits false (Some x) w c d = refl
+fits false None (Some x) c d = refl
+fits false None None (Some x) d = refl
+fits false None None None d = refl
+
+-- the rules by which the fields of a source are lowered
+abbrev rules_in : TransformData → Doc → Rules
+rules_in o source = rules_by (facts_of (resolved source) source o) o
 
 source_fits : (o : TransformData) (source : Doc) (r : Refusal) → fault_of o source ≡ Some r → is_of_source r ≡ true
-source_fits o source r h = sym (ap fits_source h) ∙ fits (unbuilt source) (is_definition_file source) (first_misplacement (resolved source) source) (wide (resolved source) source) (first_capture (resolved source) (is_in (kept (resolved source) source o.typescript)) source) source
+source_fits o source r h = sym (ap fits_source h) ∙ fits (is_definition_file source) (first_misplacement (resolved source) (rules_in o source) source) (wide (resolved source) source) (first_capture (resolved source) (rules_in o source) (is_in (kept (resolved source) source o.typescript)) source) source
 
 -- a fault of the source
 pub fault_hinders : (came : Option Refusal) (o : TransformData) (source : Doc) → IsFaultOf came (resolved source) source o → IsHindrance came o source
@@ -218,7 +219,6 @@ fault_hinders came o source h = hinders came h
     named : (r : Refusal) → fault_of o source ≡ Some r → Hinders r o source
     named json h = absurd (false_true (source_fits o source json h))
     named (shape place) h = absurd (false_true (source_fits o source (shape place) h))
-    named (unbuilt_form kind) h = h
     named (misplaced_node m place) h = h
     named (wide_member span) h = h
     named (captured_name name place) h = h
@@ -280,7 +280,6 @@ module _ (options : TransformData) (bytes : List ℕ) (source : Doc) (next : ℕ
   hindered : (r : Refusal) → Hinders r options source → Refuses r options bytes
   hindered json h = absurd h
   hindered (shape place) h = absurd h
-  hindered (unbuilt_form kind) h = record { source = source; next = next; spelled = read; cause = h }
   hindered (misplaced_node m place) h = record { source = source; next = next; spelled = read; cause = h }
   hindered (wide_member span) h = record { source = source; next = next; spelled = read; cause = h }
   hindered (captured_name name place) h = record { source = source; next = next; spelled = read; cause = h }

@@ -31,7 +31,13 @@ names_of source = all_added (names source) []
 -- what lists of nodes say of each of them; of several constants of one expression the last counts
 abbrev pub listed_in : Facts → Asked
 listed_in l =
-    record { kept = is_in l.kept; first = is_in l.first; dropped = is_in l.dropped; inlined = last_constant l.inlined }
+    record {
+      kept = is_in l.kept;
+      first = is_in l.first;
+      dropped = is_in l.dropped;
+      inlined = last_constant l.inlined;
+      never = is_in l.never_written;
+    }
 
 -- what is asked of the nodes of a source, of which that is the table of scopes and symbols, under the options
 abbrev pub asked_by : Scoped → TransformData → Doc → Asked

@@ -1,5 +1,5 @@
 -- Why bytes are refused.
-pub use Rattle.oxt_check.specs.Refusals.{Difference, misfit_at, typescript_at, setting_at, item_at, owner_at, binding_of, difference_in, Refusal, json, shape, unbuilt_form, misplaced_node, wide_member, captured_name, uncertified, line_of}
+pub use Rattle.oxt_check.specs.Refusals.{Difference, misfit_at, typescript_at, setting_at, item_at, owner_at, binding_of, difference_in, Refusal, json, shape, misplaced_node, wide_member, captured_name, uncertified, line_of}
 use Rattle.std.specs.Prelude.{ℕ, ◌≡◌, List, Bool, true, Option, None, Some, ⊤, slice_get}
 use Rattle.oxt_json.specs.Spelling.{no_value, wrong, tree, reading}
 use Rattle.oxt_tree.specs.Doc.{Doc}
@@ -81,7 +81,6 @@ pub record Fails (difference : Difference) (options : TransformData) (source : D
 abbrev pub Hinders : Refusal → TransformData → Doc → Type 0
 Hinders json o source = ⊥
 Hinders (shape place) o source = ⊥
-Hinders (unbuilt_form kind) o source = fault_of o source ≡ Some (unbuilt_form kind)
 Hinders (misplaced_node kind place) o source = fault_of o source ≡ Some (misplaced_node kind place)
 Hinders (wide_member span) o source = fault_of o source ≡ Some (wide_member span)
 Hinders (captured_name name place) o source = fault_of o source ≡ Some (captured_name name place)
@@ -103,7 +102,6 @@ pub record IsHindered (r : Refusal) (options : TransformData) (bytes : List ℕ)
 abbrev pub Refuses : Refusal → TransformData → List ℕ → Type 0
 Refuses json o bytes = reading bytes ≡ no_value
 Refuses (shape place) o bytes = reading bytes ≡ wrong place
-Refuses (unbuilt_form kind) o bytes = IsHindered (unbuilt_form kind) o bytes
 Refuses (misplaced_node kind place) o bytes = IsHindered (misplaced_node kind place) o bytes
 Refuses (wide_member span) o bytes = IsHindered (wide_member span) o bytes
 Refuses (captured_name name place) o bytes = IsHindered (captured_name name place) o bytes

@@ -80,7 +80,7 @@ impl TransformerReturn {
 ///
 /// A wrapper around a target that may not be assigned to stays, and a diagnostic tells of it.
 ///
-/// Of the options those of decorators and of class fields do not act yet: they say only which programs are left alone.
+/// Of the options those of decorators do not act yet: they say only which programs are left alone.
 ///
 /// # Errors
 ///

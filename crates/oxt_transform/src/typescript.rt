@@ -2,6 +2,7 @@
 ghost use Rattle.std.specs.Prelude.{OnOk};
 ghost use Rattle.oxt_traverse.specs.Level.{IsLevel};
 
+use oxt_class::pass::ClassFields;
 use oxt_ctx::context::TraverseCtx;
 use oxt_erase::extensions::TypeScriptRewriteExtensions;
 use oxt_erase::module::TypeScriptModule;
@@ -41,6 +42,7 @@ pub struct TypeScript {
     enums: TypeScriptEnum,
     annotations: TypeScriptAnnotations,
     modules: TypeScriptModule,
+    classes: ClassFields,
     extensions: Option<TypeScriptRewriteExtensions>,
 }
 
@@ -53,6 +55,7 @@ impl TypeScript {
             enums: TypeScriptEnum::new(typescript.optimize_const_enums, typescript.optimize_enums),
             annotations: TypeScriptAnnotations::new(),
             modules: TypeScriptModule::new(typescript.only_remove_type_imports, options.module),
+            classes: ClassFields::new(options),
             extensions: TypeScriptRewriteExtensions::new(typescript),
         }
     }
@@ -69,6 +72,7 @@ impl Traverse for TypeScript {
         run_at_node(&mut self.enums, hook, node, ctx)?;
         run_at_node(&mut self.annotations, hook, node, ctx)?;
         run_at_node(&mut self.modules, hook, node, ctx)?;
+        run_at_node(&mut self.classes, hook, node, ctx)?;
         match &mut self.extensions {
             Some(extensions) => run_at_node(extensions, hook, node, ctx),
             None => Ok(()),
@@ -85,6 +89,7 @@ impl Traverse for TypeScript {
         run_at_statements(&mut self.enums, hook, statements, ctx)?;
         run_at_statements(&mut self.annotations, hook, statements, ctx)?;
         run_at_statements(&mut self.modules, hook, statements, ctx)?;
+        run_at_statements(&mut self.classes, hook, statements, ctx)?;
         match &mut self.extensions {
             Some(extensions) => run_at_statements(extensions, hook, statements, ctx),
             None => Ok(()),

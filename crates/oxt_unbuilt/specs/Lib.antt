@@ -1,3 +1,2 @@
 pub mod Dropped
-pub mod Unbuilt
-pub mod UnbuiltKinds
+pub mod Languages

@@ -1,7 +1,5 @@
-//! Which nodes stand for nothing at run time, and the forms of TypeScript that are not transformed yet.
+//! Which nodes stand for nothing at run time.
 #![tactic(auto)]
 
 pub mod dropped;
 pub mod rows;
-pub mod unbuilt;
-mod unbuilt_kinds;

@@ -1,6 +1,6 @@
 //! What the rows of the grammar say of languages.
 ghost use Rattle.std.specs.Prelude.{◌≡◌};
-ghost use Rattle.oxt_unbuilt.specs.Unbuilt.{is_language};
+ghost use Rattle.oxt_unbuilt.specs.Languages.{is_language};
 
 use oxt_grammar::holds::Holds;
 use oxt_grammar::word::Words;

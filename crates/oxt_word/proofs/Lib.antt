@@ -1,2 +1,3 @@
+pub mod Gains
 pub mod Loops
 pub mod Puts

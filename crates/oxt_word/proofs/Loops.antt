@@ -19,7 +19,7 @@ use Rattle.oxt_forms.proofs.Details.{row_at}
 use Rattle.oxt_facts.specs.Entry.{Entry, lone}
 use Rattle.oxt_forms.specs.Details.{is_read}
 use Rattle.oxt_forms.specs.Leaves.{dropped}
-use Rattle.oxt_word.specs.Word.{said, each_said, turns_said, last_said, fields_said, field_said}
+use Rattle.oxt_word.specs.Word.{said, each_said, turns_said, last_said, some_said, takes, fields_said, field_said}
 use Rattle.oxt_facts.specs.declared.item.ItemKind.TheVariants as item
 use Rattle.oxt_word.specs.declared.way.Way.{Way}
 use Rattle.oxt_word.specs.declared.way.Way.TheVariants as way
@@ -71,6 +71,19 @@ last_of f (q ∷ []) i p w long at = single i long at
     single (suc j) l e = absurd (omega arith)
 last_of f (q ∷ r ∷ ps) zero p w long at = absurd (omega arith)
 last_of f (q ∷ r ∷ ps) (suc i) p w long at = last_of f (r ∷ ps) i p w (omega arith) at
+
+-- an element of a list, if it is taken
+abbrev pub taken_word : Known → Part → Bool → List Entry
+taken_word f p b = if b then said f (part_doc p) way.Whole else []
+
+pub one_taken : (f : Known) (whole : List Entry) (ps : List Part) (i : ℕ) (p : Part) (b : Bool) (w : Way) (old new : List Entry) → i < length ps → p ≡ get_or ps i p → b ≡ takes w i → new ≡ old ++ taken_word f p b
+    → whole ≡ old ++ some_said f (docs_in (drop i ps)) i w → whole ≡ new ++ some_said f (docs_in (drop (i + 1) ps)) (i + 1) w
+one_taken f whole ps i p b w old new within at chosen is so_far =
+    regroup whole old (taken_word f p b) _ (so_far ∙ ap (λ qs. old ++ some_said f (docs_in qs) i w) (drop_at ps i p within at) ∙ ap (λ c. old ++ (taken_word f p c ++ some_said f (docs_in (drop (i + 1) ps)) (i + 1) w)) (sym chosen))
+    ∙ ap (λ v. v ++ some_said f (docs_in (drop (i + 1) ps)) (i + 1) w) (sym is)
+
+pub no_taken : (f : Known) (whole : List Entry) (ps : List Part) (i : ℕ) (w : Way) (old : List Entry) → length ps ≤ i → whole ≡ old ++ some_said f (docs_in (drop i ps)) i w → old ≡ whole
+no_taken f whole ps i w old past so_far = sym (so_far ∙ ap (λ qs. old ++ some_said f (docs_in qs) i w) (drop_end ps i past) ∙ append-nil old)
 
 -- the fields from a place on
 abbrev pub fields_from : Known → ℕ → List Row → List Part → Way → List Entry

@@ -1,3 +1,4 @@
+pub mod Classes
 pub mod Enums
 pub mod Erased
 pub mod Modules

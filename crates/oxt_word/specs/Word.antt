@@ -1,10 +1,10 @@
 -- The effect word of a document: what its code does, as a flat list of items.
-use Rattle.std.specs.Prelude.{ℕ, List, [], ◌∷◌, ◌++◌, true, if◌then◌else◌, Option, None, Some}
+use Rattle.std.specs.Prelude.{ℕ, ◌+◌, List, [], ◌∷◌, ◌++◌, Bool, true, nat_le, nat_lt, if◌then◌else◌, Option, None, Some}
 use Rattle.std.specs.Str.{bytes_eq}
 use Rattle.oxt_facts.specs.Facts.{Known, group_here}
 use Rattle.oxt_facts.specs.Groups.{numbered_groups}
 use Rattle.oxt_facts.specs.Inside.{inside}
-use Rattle.oxt_facts.specs.Told.{Telling, block, member, bare, inlined, gone, listless, export, quasi, space, stored, strict, told_of}
+use Rattle.oxt_facts.specs.Told.{Telling, block, member, bare, inlined, gains, gone, leaves_key, listless, export, moves, quasi, space, stored, strict, told_of}
 use Rattle.oxt_grammar.specs.Field.{Field}
 use Rattle.oxt_grammar.specs.Rows.{row_of}
 use Rattle.oxt_grammar.specs.declared.kind.Kind.{Kind}
@@ -16,6 +16,7 @@ use Rattle.oxt_facts.specs.Tags.{numbered}
 use Rattle.oxt_forms.specs.Details.{is_read}
 use Rattle.oxt_forms.specs.Leaves.{dropped}
 use Rattle.oxt_word.specs.Node.{OneField, AllFields}
+use Rattle.oxt_word.specs.Classes.{first_word, gaining_word, head_word, later_word, left_word, moving_word, put_key_word, tail_word}
 use Rattle.oxt_word.specs.Enums.{bare_word, enum_word, inlined_word, is_exported, member_word}
 use Rattle.oxt_word.specs.Erased.{is_gone, gone_word}
 use Rattle.oxt_word.specs.Modules.{listless_word, program_word, quasi_word}
@@ -43,6 +44,12 @@ way_word f way.Statics r k i ds c fs = statics_word f r k ds c fs
 way_word f way.Fields r k i ds c fs = fields_word f r k ds c fs
 way_word f way.Methods r k i ds c fs = methods_word f r k ds c fs
 way_word f way.Constructor r k i ds c fs = constructor_word f r k ds c fs
+way_word f (way.Head n) r k i ds c fs = head_word n r k ds c
+way_word f (way.Tail n) r k i ds c fs = tail_word n r k ds c
+way_word f (way.First n) r k i ds c fs = first_word n r c
+way_word f (way.Later n) r k i ds c fs = later_word n r c
+way_word f way.Puts r k i ds c fs = []
+way_word f way.PutKey r k i ds c fs = put_key_word f r k i ds c fs
 way_word f w r k i ds c fs = whole_word f r k i ds c fs
 
 -- the same, unless the node is erased
@@ -63,17 +70,28 @@ told_word f (Some (quasi a b)) w r k i ds c fs = quasi_word a b
 told_word f (Some (space s)) w r k i ds c fs = namespace_word s (is_exported w) c
 told_word f (Some (export t ns)) w r k i ds c fs = export_word t ns c
 told_word f (Some (stored t n)) w r k i ds c fs = stored_word t n w c
+told_word f (Some (gains g)) w r k i ds c fs = gaining_word g w (own_word f w r k i ds c fs) fs
+told_word f (Some (moves m)) w r k i ds c fs = moving_word m w c
+told_word f (Some leaves_key) w r k i ds c fs = left_word w c
 
 -- the same of the node of that number
 abbrev pub node_word : Known → Way → Rule → Kind → ℕ → Docs → OneField → AllFields → List Entry
 node_word f w r k i ds c fs = told_word f (told_of f.told i) w r k i ds c fs
 
--- what the elements of a list do, in order: read so, in turn, or the last alone
-abbrev pub list_word : Way → AllFields → AllFields → AllFields → List Entry
-list_word way.InTurn each turns last = turns way.Whole
-list_word way.InTurnKeyed each turns last = turns way.Keyed
-list_word way.LastText each turns last = last way.KeyText
-list_word w each turns last = each w
+-- what the elements of a list do, in order: read so, in turn, the last alone, or some of them
+abbrev pub list_word : Way → AllFields → AllFields → AllFields → AllFields → List Entry
+list_word way.InTurn each turns last some = turns way.Whole
+list_word way.InTurnKeyed each turns last some = turns way.Keyed
+list_word way.LastText each turns last some = last way.KeyText
+list_word (way.First n) each turns last some = some (way.First n)
+list_word (way.Later n) each turns last some = some (way.Later n)
+list_word w each turns last some = each w
+
+-- the way takes the element at that place of a list
+abbrev pub takes : Way → ℕ → Bool
+takes (way.First n) i = nat_lt i n
+takes (way.Later n) i = nat_le n i
+takes w i = true
 
 -- an element that is dropped, unless it is the last
 abbrev pub turn : Docs → List Entry → List Entry → List Entry
@@ -92,7 +110,7 @@ abbrev mutual
   said f (flag b) w = []
   said f (number n) w = []
   said f (text t) w = []
-  said f (list ds) w = list_word w (each_said f ds) (turns_said f ds) (last_said f ds)
+  said f (list ds) w = list_word w (each_said f ds) (turns_said f ds) (last_said f ds) (some_said f ds 0)
   said f (node k i b e ds) w =
       node_word (inside f i k ds) w (rule_of k) k i ds
       (field_said (inside f i k ds) ds (row_of k)) (fields_said (inside f i k ds) ds (row_of k))
@@ -108,6 +126,12 @@ abbrev mutual
   pub last_said : Known → Docs → Way → List Entry
   last_said f no_docs w = []
   last_said f (doc d ds) w = final ds (said f d w) ++ last_said f ds w
+
+  -- the elements that the way takes, of which the first stands at that place
+  pub some_said : Known → Docs → ℕ → Way → List Entry
+  some_said f no_docs i w = []
+  some_said f (doc d ds) i w =
+      (if takes w i then said f d way.Whole else []) ++ some_said f ds (i + 1) w
 
   -- the field of that name; an absent part where there is none
   pub field_said : Known → Docs → List Field → List ℕ → Way → List Entry

@@ -223,7 +223,11 @@ pub(crate) fn put_keys(
 
 /// Puts the decorators and the key of an element.
 #[cycle(word)]
-fn put_element_key(facts: &Facts, node: &Node, out: &mut Vec<Item>) -> Result<(), OutOfMemory>
+pub(crate) fn put_element_key(
+    facts: &Facts,
+    node: &Node,
+    out: &mut Vec<Item>,
+) -> Result<(), OutOfMemory>
     ensures { OnOk result (entries out.new.items
         ≡ entries out.old.items ++ keys_word Rule.Method (each_field facts.now node.now)
         (all_fields facts.now node.now)) }

@@ -142,8 +142,8 @@ fn put_return(alloc: Global, block: &ToldBlock, out: &mut Vec<Item>) -> Result<(
     put_lone(alloc, ItemKind::Close, out)
 }
 
-/// Puts the start of an operation.
-fn put_operation(
+/// Puts the start of an operation, or of another node with that text.
+pub(crate) fn put_operation(
     alloc: Global,
     kind: Kind,
     operator: &str,

@@ -5,6 +5,7 @@ mod class;
 mod enums;
 mod gone;
 mod modules;
+mod moves;
 mod namespaces;
 pub mod rule;
 pub mod rule_of;

@@ -90,7 +90,7 @@ fn put_based(
 }
 
 /// Puts the use of the made name with that tag.
-fn put_made(alloc: Global, tag: &Name, out: &mut Vec<Item>) -> Result<(), OutOfMemory>
+pub(crate) fn put_made(alloc: Global, tag: &Name, out: &mut Vec<Item>) -> Result<(), OutOfMemory>
     ensures { OnOk result (entries out.new.items
         ≡ entries out.old.items ++ spelled ItemKind.Made (text (name_bytes tag.now))) }
 {

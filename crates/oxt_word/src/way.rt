@@ -1,4 +1,6 @@
 //! The ways in which a rule reads what stands in it.
+ghost use Rattle.std.specs.Prelude.{◌≡◌};
+ghost use Rattle.oxt_word.specs.Word.{takes};
 
 use oxt_facts::item::Binding;
 
@@ -43,4 +45,29 @@ pub enum Way {
     Methods,
     /// As the constructor of a class.
     Constructor,
+    /// As the constructor of a class, up to that many statements of its body.
+    Head(usize),
+    /// As the constructor of a class, behind that many statements of its body.
+    Tail(usize),
+    /// As a function up to that many statements of its body, or as these statements.
+    First(usize),
+    /// As the rest of a function, or as the statements behind that many.
+    Later(usize),
+    /// As what the fields of a class put on the object in its constructor.
+    Puts,
+    /// As a key under which a value is put.
+    PutKey,
+}
+
+impl Way {
+    /// Whether the way takes the element at that place of a list.
+    pub fn takes(self, place: usize) -> bool
+        ensures { result ≡ takes self place }
+    {
+        match self {
+            Way::First(count) => place < count,
+            Way::Later(count) => count <= place,
+            _ => true,
+        }
+    }
 }

@@ -9,7 +9,7 @@ ghost use Rattle.oxt_word.specs.Node.{opened};
 ghost use Rattle.oxt_word.specs.RuleOf.{rule_of};
 ghost use Rattle.oxt_word.specs.Ways.{bound_word, entered_word, exported_word, target_word};
 ghost use Rattle.oxt_word.specs.Whole.{arrow_word, assignment_word, body_word, call_word, declarator_word, function_word, get_word, if_word, logical_word, object_word, sequence_word, variables_word, whole_word};
-ghost use Rattle.oxt_word.specs.Word.{all_fields, each_field, each_said, fields_said, last_said, list_word, node_word, own_word, said, turns_said, way_word, word};
+ghost use Rattle.oxt_word.specs.Word.{all_fields, each_field, each_said, fields_said, last_said, list_word, node_word, own_word, said, some_said, turns_said, way_word, word};
 ghost use Rattle.oxt_grammar.specs.Keys.{key_of};
 
 use crate::class::{
@@ -21,6 +21,9 @@ use crate::gone::{is_gone, put_gone};
 use crate::modules::{
     put_export_assignment, put_export_list, put_import, put_import_equals, put_listless,
     put_program, put_qualified, put_quasi, put_required,
+};
+use crate::moves::{
+    put_ending, put_gaining, put_head, put_left, put_moving, put_opening, put_put_key, put_tail,
 };
 use crate::namespaces::{put_export, put_namespace, put_stored};
 use crate::rule::Rule;
@@ -98,12 +101,20 @@ fn put_known(facts: &Facts, node: &Node, way: Way, out: &mut Vec<Item>) -> Resul
         Some(Told::Namespace(block)) => put_namespace(facts, block, is_exported(way), node, out),
         Some(Told::Export(export)) => put_export(facts, export, node, out),
         Some(Told::Stored(stored)) => put_stored(facts, stored, way, node, out),
+        Some(Told::Gains(class)) => put_gaining(facts, class, way, node, out),
+        Some(Told::Moves(field)) => put_moving(facts, field, way, node, out),
+        Some(Told::LeavesKey) => put_left(facts, way, node, out),
     }
 }
 
 /// Puts what the node does by its own rule, read that way; nothing if it is erased.
 #[cycle(word)]
-fn put_own(facts: &Facts, way: Way, node: &Node, out: &mut Vec<Item>) -> Result<(), OutOfMemory>
+pub(crate) fn put_own(
+    facts: &Facts,
+    way: Way,
+    node: &Node,
+    out: &mut Vec<Item>,
+) -> Result<(), OutOfMemory>
     ensures { OnOk result (entries out.new.items
         ≡ entries out.old.items ++ own_word facts.now way (rule_of node.now.kind) node.now.kind node.now.id.0
         (docs_in node.now.parts.items) (each_field facts.now node.now) (all_fields facts.now node.now)) }
@@ -143,6 +154,12 @@ fn put_way(
         Way::Fields => put_instance_fields(facts, rule, node, out),
         Way::Methods => put_methods(facts, rule, node, out),
         Way::Constructor => put_constructor(facts, rule, node, out),
+        Way::Head(count) => put_head(facts, count, rule, node, out),
+        Way::Tail(count) => put_tail(facts, count, rule, node, out),
+        Way::First(count) => put_opening(facts, count, rule, node, out),
+        Way::Later(count) => put_ending(facts, count, rule, node, out),
+        Way::Puts => Ok(()),
+        Way::PutKey => put_put_key(facts, rule, node, out),
         _ => put_whole(facts, rule, node, out),
     }
 }
@@ -166,12 +183,14 @@ fn put_part(facts: &Facts, part: &Part, way: Way, out: &mut Vec<Item>) -> Result
 fn put_list(facts: &Facts, parts: &[Part], way: Way, out: &mut Vec<Item>) -> Result<(), OutOfMemory>
     ensures { OnOk result (entries out.new.items
         ≡ entries out.old.items ++ list_word way (each_said facts.now (docs_in parts.now)) (turns_said facts.now
-        (docs_in parts.now)) (last_said facts.now (docs_in parts.now))) }
+        (docs_in parts.now)) (last_said facts.now (docs_in parts.now)) (some_said facts.now (docs_in parts.now) 0)) }
 {
     match way {
         Way::InTurn => put_turns(facts, parts, Way::Whole, out),
         Way::InTurnKeyed => put_turns(facts, parts, Way::Keyed, out),
         Way::LastText => put_last(facts, parts, Way::KeyText, out),
+        Way::First(count) => put_some(facts, parts, Way::First(count), out),
+        Way::Later(count) => put_some(facts, parts, Way::Later(count), out),
         _ => put_each(facts, parts, way, out),
     }
 }
@@ -242,6 +261,36 @@ fn put_last(facts: &Facts, parts: &[Part], way: Way, out: &mut Vec<Item>) -> Res
         return Ok(());
     }
     put_part(facts, &parts[count - 1], way, out)
+}
+
+/// Puts what those of the parts do that the way takes.
+#[cycle(word)]
+#[tactic(auto, using(crate::proofs::Loops::one_taken, crate::proofs::Loops::no_taken))]
+fn put_some(facts: &Facts, parts: &[Part], way: Way, out: &mut Vec<Item>) -> Result<(), OutOfMemory>
+    ensures { OnOk result (entries out.new.items
+        ≡ entries out.old.items ++ some_said facts.now (docs_in parts.now) 0 way) }
+{
+    for (i, part) in parts.iter().enumerate() {
+        put_taken(facts, part, way.takes(i), out)?;
+    }
+    Ok(())
+}
+
+/// Puts what the part does, if it is taken.
+#[cycle(word)]
+fn put_taken(
+    facts: &Facts,
+    part: &Part,
+    is_taken: bool,
+    out: &mut Vec<Item>,
+) -> Result<(), OutOfMemory>
+    ensures { OnOk result (entries out.new.items
+        ≡ entries out.old.items ++ (if is_taken then said facts.now (part_doc part.now) Way.Whole else [])) }
+{
+    if is_taken {
+        return put_part(facts, part, Way::Whole, out);
+    }
+    Ok(())
 }
 
 /// Puts what the field of that name does, read that way; an absent part where there is none.

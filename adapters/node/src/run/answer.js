@@ -3,7 +3,7 @@
  */
 import { OxtOptionError, OxtProgramError, OxtRefusal } from "../errors.js";
 import { positionAt } from "../position.js";
-import { firstDeeperThan, firstNode, nodeAtPointer } from "./places.js";
+import { firstDeeperThan, nodeAtPointer } from "./places.js";
 
 /** How deep the JSON of a tree may nest. */
 const MAX_LEVELS = 127;
@@ -16,9 +16,6 @@ const FAILURES = {
   [Status.Memory]: "ran out of memory",
   [Status.TooLong]: "takes trees of up to 16,777,216 bytes of JSON, and this one has more",
 };
-
-/** The marks by which a parameter is a property of its class. */
-const isParameterProperty = ({ accessibility, readonly, override }) => Boolean(accessibility || readonly || override);
 
 /**
  * A complaint of the program about a source that it has lowered all the same.
@@ -106,8 +103,6 @@ export class Question {
       }
       case "shape":
         return { what: "no tree of the grammar", node: nodeAtPointer(this.tree, rest[0] ?? "") };
-      case "unbuilt":
-        return { what: `unbuilt ${rest[0]}`, node: this.firstOfForm(rest[0]) };
       case "misplaced":
       case "captured":
         return { what: `${word} ${rest[0]}`, node: nodeAtPointer(this.tree, rest[1] ?? "") };
@@ -117,10 +112,6 @@ export class Question {
         // The places of a failed certificate are those of the output.
         return { what: [word, ...rest].join(" "), node: this.tree };
     }
-  }
-
-  firstOfForm(kind) {
-    return firstNode(this.tree, (node) => node.type === kind && (kind !== "FormalParameter" || isParameterProperty(node)));
   }
 }
 

@@ -1,0 +1,11 @@
+-- Only the table of names, the declarators and the next number have changed, and as many lists are open.
+use Rattle.std.proofs.Common.{◌≡◌, length}
+use Rattle.oxt_ctx.specs.Made.{but_names_of}
+use Rattle.oxt_stores.specs.Frame.{frames}
+use Rattle.oxt_class.proofs.params.convert_constructor_params.Given as goal
+
+abbrev pub invariant-loop-param : goal.invariant-loop-param
+invariant-loop-param l = record {
+  frame : l.ctx ≡ but_names_of l.initial.ctx l.ctx;
+  depth : length (frames l.ctx.declarations) ≡ length (frames l.initial.ctx.declarations);
+}

@@ -1,0 +1,16 @@
+//! The fields of classes lowered: moved into the constructor or static blocks, dropped where they are empty,
+//! and parameters of the constructor put on the object.
+#![tactic(auto)]
+
+mod block;
+mod elements;
+pub mod exit;
+pub mod fields;
+mod keys;
+mod moving;
+pub mod params;
+mod parts;
+pub mod pass;
+pub mod properties;
+
+pub use oxt_fields::class::get_super_call_position;

@@ -1,0 +1,22 @@
+-- The facts of a class, one by one.
+use Rattle.std.proofs.Common.{◌≡◌, ◌∙◌, ap, Bool}
+use Rattle.oxt_class_checks.specs.Class.{class_facts, facts_by, facts_of}
+use Rattle.oxt_class_checks.specs.declared.class.ClassFacts.{ClassFacts}
+use Rattle.oxt_fields.specs.Classes.{elements_of, is_derived}
+use Rattle.oxt_fields.specs.Fates.{hoists_private}
+use Rattle.oxt_fields.specs.Rules.{Rules}
+use Rattle.oxt_tree.specs.Doc.{Docs}
+use Rattle.oxt_tree.specs.View.{docs_in, node_doc}
+use Rattle.oxt_tree.specs.declared.tree.Node.{Node}
+
+abbrev pub facts : Bool → Bool → Bool → Bool → Bool → ClassFacts
+facts d h m a s = record { is_derived = d; hoists = h; has_moving = m; has_decorated = a; has_assigned = s }
+
+pub same_facts : (d h m m' a a' s s' : Bool) → m ≡ m' → a ≡ a' → s ≡ s' → facts d h m a s ≡ facts d h m' a' s'
+same_facts d h m m' a a' s s' e f g =
+    ap (λ x. facts d h x a s) e ∙ (ap (λ x. facts d h m' x s) f ∙ ap (λ x. facts d h m' a' x) g)
+
+pub facts_of_class : (r : Rules) (n : Node) (f : ClassFacts) (d h : Bool) (es : Docs) → f ≡ facts_of r d h es → d ≡ is_derived (node_doc n) → h ≡ hoists_private es → es ≡ elements_of (node_doc n)
+    → f ≡ class_facts r n.kind (docs_in n.parts.items)
+facts_of_class r n f d h es is derived hoists elements =
+    is ∙ (ap (λ x. facts_of r d x es) hoists ∙ (ap (λ x. facts_by r x es) derived ∙ ap (facts_by r (is_derived (node_doc n))) elements))

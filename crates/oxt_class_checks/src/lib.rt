@@ -1,0 +1,8 @@
+//! Elements of classes that stand where they may not: what their classes are, and where their fields are lowered to,
+//! decides.
+#![tactic(auto)]
+
+mod calls;
+mod class;
+pub mod misplaced;
+mod rules;

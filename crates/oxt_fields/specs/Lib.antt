@@ -1,0 +1,5 @@
+pub mod Classes
+pub mod Fates
+pub mod Marks
+pub mod Rules
+pub mod Written

@@ -1,0 +1,260 @@
+//! What becomes of the fields of a class.
+ghost use Rattle.std.specs.List.{list_any};
+ghost use Rattle.std.specs.Prelude.{◌≡◌, codes, option_map};
+ghost use Rattle.oxt_fields.specs.Fates.{assigned_fate, constant_of, defined_fate, empty_fate, fate, has_value, hoists_private, is_field, is_hoisting, is_moving, is_private, is_static, is_steady_kind, keeps_empty, key_constant, moves_to_constructor, moving_fate, needs_temporary, steady_kinds, unwrapped};
+ghost use Rattle.oxt_fields.specs.Rules.{rules_view};
+ghost use Rattle.oxt_names.specs.Constant.{constant_view};
+ghost use Rattle.oxt_tree.specs.Fields.{named};
+ghost use Rattle.oxt_tree.specs.View.{docs_in, node_doc, part_doc};
+
+use crate::rules::FieldRules;
+use oxt_grammar::category::Category;
+use oxt_grammar::field::Field;
+use oxt_grammar::kind::Kind;
+use oxt_names::constant::ConstantValue;
+use oxt_tree::tree::{Node, Part};
+
+/// What becomes of an element of a class.
+#[derive(Clone, Copy, Debug, PartialEq, Eq)]
+pub enum Fate {
+    /// It stays as it is.
+    Stays,
+    /// It goes, and leaves nothing.
+    Goes,
+    /// It goes, but its key is still computed in its place.
+    LeavesKey,
+    /// It is set by assignment.
+    Moves {
+        /// Whether an empty field stays in its place.
+        stays: bool,
+        /// Whether its key is kept in a temporary.
+        has_temporary: bool,
+    },
+}
+
+/// What becomes of the element of a class, where `hoists` says whether private instance fields move too. All but fields
+/// stay, and so do fields that are only declared.
+pub fn fate_of(rules: FieldRules, hoists: bool, node: &Node) -> Fate
+    ensures { result ≡ fate (rules_view rules.entry) hoists (node_doc node.now) }
+{
+    if !is_field(node) {
+        Fate::Stays
+    } else if rules.moves {
+        assigned_fate(rules, hoists, node)
+    } else {
+        defined_fate(rules, node)
+    }
+}
+
+/// What becomes of a field where public fields are set by assignment.
+fn assigned_fate(rules: FieldRules, hoists: bool, node: &Node) -> Fate
+    ensures { result ≡ assigned_fate (rules_view rules.entry) hoists node.now.kind (docs_in node.now.parts.items) }
+{
+    if has_value(node) {
+        moving_fate(rules, hoists, node)
+    } else {
+        empty_fate(rules, node)
+    }
+}
+
+/// What becomes of a field with a value there.
+fn moving_fate(rules: FieldRules, hoists: bool, node: &Node) -> Fate
+    ensures { result ≡ moving_fate (rules_view rules.entry) hoists node.now.kind (docs_in node.now.parts.items) }
+{
+    let is_private = is_private(node);
+    let is_instance = !is_static(node);
+    if !is_private || (is_instance && hoists) {
+        Fate::Moves {
+            stays: is_instance && (is_private || !rules.drops_empty),
+            has_temporary: !is_private && key_needs_temporary(rules, node),
+        }
+    } else {
+        Fate::Stays
+    }
+}
+
+/// What becomes of a field without a value there.
+fn empty_fate(rules: FieldRules, node: &Node) -> Fate
+    ensures { result ≡ empty_fate (rules_view rules.entry) node.now.kind (docs_in node.now.parts.items) }
+{
+    if is_private(node) || !rules.drops_empty {
+        Fate::Stays
+    } else if key_needs_temporary(rules, node) {
+        Fate::LeavesKey
+    } else {
+        Fate::Goes
+    }
+}
+
+/// What becomes of a field where fields are defined.
+fn defined_fate(rules: FieldRules, node: &Node) -> Fate
+    ensures { result ≡ defined_fate (rules_view rules.entry) node.now.kind (docs_in node.now.parts.items) }
+{
+    if rules.drops_empty
+        && (!has_value(node) && (!is_private(node) && !key_keeps_empty(rules, node)))
+    {
+        Fate::Goes
+    } else {
+        Fate::Stays
+    }
+}
+
+/// Whether the element of a class is an instance field that moves into the constructor.
+pub fn moves_to_constructor(rules: FieldRules, hoists: bool, node: &Node) -> bool
+    ensures { result ≡ moves_to_constructor (rules_view rules.entry) hoists (node_doc node.now) }
+{
+    fate_of(rules, hoists, node).is_moving() && !is_static(node)
+}
+
+impl Fate {
+    /// Whether it is set by assignment.
+    pub fn is_moving(self) -> bool
+        ensures { result ≡ is_moving self }
+    {
+        match self {
+            Fate::Moves { .. } => true,
+            _ => false,
+        }
+    }
+}
+
+/// Whether one of the elements is an instance field with a value, neither private nor only declared: then private instance
+/// fields move too.
+#[tactic(auto, using(oxt_tree::proofs::Lists::list_any_docs_in))]
+pub fn hoists_private(elements: &[Part]) -> bool
+    ensures { result ≡ hoists_private (docs_in elements.now) }
+{
+    is_any_hoisting(elements)
+}
+
+/// Whether one of the elements is such a field.
+fn is_any_hoisting(elements: &[Part]) -> bool
+    ensures { result ≡ list_any (λ part. is_hoisting (part_doc part)) elements.now }
+{
+    elements.iter().any(|element| is_hoisting(element))
+}
+
+/// Whether the element is such a field.
+fn is_hoisting(element: &Part) -> bool
+    ensures { result ≡ is_hoisting (part_doc element.now) }
+{
+    match element {
+        Part::Node(node) => {
+            is_field(node) && (!is_static(node) && (!is_private(node) && has_value(node)))
+        }
+        _ => false,
+    }
+}
+
+/// Whether it is a field that is not only declared.
+pub fn is_field(node: &Node) -> bool
+    ensures { result ≡ is_field node.now.kind (docs_in node.now.parts.items) }
+{
+    node.kind.is(Kind::PropertyDefinition) && !node.flag(Field::Declare)
+}
+
+/// Whether the element is static.
+pub fn is_static(node: &Node) -> bool
+    ensures { result ≡ is_static node.now.kind (docs_in node.now.parts.items) }
+{
+    node.flag(Field::Static)
+}
+
+/// Whether the name of the element is private.
+pub fn is_private(node: &Node) -> bool
+    ensures { result ≡ is_private node.now.kind (docs_in node.now.parts.items) }
+{
+    node.holds_kind(Field::Key, Kind::PrivateIdentifier)
+}
+
+/// Whether the element has a value.
+pub fn has_value(node: &Node) -> bool
+    ensures { result ≡ has_value node.now.kind (docs_in node.now.parts.items) }
+{
+    !node.lacks(Field::Value)
+}
+
+/// Whether the key needs a temporary: an expression, but neither a literal nor a name that nothing writes to.
+pub fn needs_temporary(rules: FieldRules, key: &Node) -> bool
+    ensures { result ≡ needs_temporary (rules_view rules.entry) (node_doc key.now) }
+{
+    !is_steady_kind(key.kind) && !rules.plan.is_never_written(key.id)
+}
+
+/// Whether the key of the element needs a temporary.
+fn key_needs_temporary(rules: FieldRules, node: &Node) -> bool
+    ensures { result
+        ≡ needs_temporary (rules_view rules.entry) (named (codes "key") node.now.kind (docs_in node.now.parts.items)) }
+{
+    match node.field(Field::Key) {
+        Some(Part::Node(key)) => needs_temporary(rules, key),
+        _ => false,
+    }
+}
+
+/// Whether the key of the element keeps it, though it is empty and such are dropped.
+fn key_keeps_empty(rules: FieldRules, node: &Node) -> bool
+    ensures { result
+        ≡ keeps_empty (rules_view rules.entry) (named (codes "key") node.now.kind (docs_in node.now.parts.items)) }
+{
+    match node.field(Field::Key) {
+        Some(Part::Node(key)) => keeps_empty(rules, key),
+        _ => false,
+    }
+}
+
+/// Whether the key keeps its empty field: it needs a temporary once wrappers are erased and constants are written in their
+/// places.
+fn keeps_empty(rules: FieldRules, key: &Node) -> bool
+    ensures { result ≡ keeps_empty (rules_view rules.entry) (node_doc key.now) }
+{
+    match key_constant(rules, key) {
+        Some(ConstantValue::Text(_)) => false,
+        Some(ConstantValue::Number(number)) => *number < 0,
+        None => needs_temporary(rules, unwrapped(key)),
+    }
+}
+
+/// The constant of the key, or of what stands inside its wrappers and parentheses.
+fn key_constant<'a>(rules: FieldRules<'a>, key: &Node) -> Option<&'a ConstantValue>
+    ensures { option_map (λ value. constant_view value.now) result ≡ key_constant (rules_view rules.entry) (node_doc key.now) }
+{
+    match rules.plan.inlined(key.id) {
+        Some(value) => Some(value),
+        None => rules.plan.inlined(key.get_inner_expression().id),
+    }
+}
+
+/// The key without the wrappers around it; parentheses stay that stand around all.
+fn unwrapped(key: &Node) -> &Node
+    ensures { node_doc result.now ≡ unwrapped (node_doc key.now) }
+{
+    if Category::Wrapper.contains(key.kind) {
+        key.get_inner_expression()
+    } else {
+        key
+    }
+}
+
+/// Whether keys of the kind can be written twice: names, and literals.
+pub fn is_steady_kind(kind: Kind) -> bool
+    ensures { result ≡ is_steady_kind kind }
+{
+    steady_kinds().iter().any(|other| kind.is(*other))
+}
+
+/// The kinds of such keys.
+fn steady_kinds() -> &'static [Kind]
+    ensures { result.now ≡ steady_kinds }
+{
+    &[
+        Kind::IdentifierName,
+        Kind::PrivateIdentifier,
+        Kind::BooleanLiteral,
+        Kind::NullLiteral,
+        Kind::NumericLiteral,
+        Kind::StringLiteral,
+        Kind::BigIntLiteral,
+        Kind::RegExpLiteral,
+    ]
+}

@@ -1,0 +1,131 @@
+-- How classes are read whose constructor puts more on the object than is written in it, and fields whose values are put
+-- elsewhere.
+use Rattle.std.specs.Prelude.{ℕ, List, [], ◌∷◌, ◌++◌, Bool, true, false, if◌then◌else◌, Option, None, Some, codes}
+use Rattle.oxt_facts.specs.Entry.{Entry, detail, detailed, lone, spelled}
+use Rattle.oxt_facts.specs.Facts.{Known}
+use Rattle.oxt_facts.specs.Told.{Gaining, Moving, Names}
+use Rattle.oxt_facts.specs.declared.item.ItemKind.TheVariants as item
+use Rattle.oxt_forms.specs.Details.{start}
+use Rattle.oxt_forms.specs.Leaves.{dropped}
+use Rattle.oxt_grammar.specs.declared.kind.Kind.{Kind}
+use Rattle.oxt_grammar.specs.declared.kind.Kind.TheVariants as kind
+use Rattle.oxt_tree.specs.Doc.{Docs, flag, nil, text}
+use Rattle.oxt_tree.specs.Fields.{first, named}
+use Rattle.oxt_word.specs.Enums.{use_word}
+use Rattle.oxt_word.specs.Node.{OneField, AllFields}
+use Rattle.oxt_word.specs.Ways.{is_constructor}
+use Rattle.oxt_word.specs.Whole.{whole_word}
+use Rattle.oxt_word.specs.declared.rule.Rule.{Rule}
+use Rattle.oxt_word.specs.declared.rule.Rule.TheVariants as rule
+use Rattle.oxt_word.specs.declared.way.Way.{Way}
+use Rattle.oxt_word.specs.declared.way.Way.TheVariants as way
+
+-- A constructor in front of what is put is its start and its function up to there.
+abbrev pub head_word : ℕ → Rule → Kind → Docs → OneField → List Entry
+head_word n rule.Method k ds c =
+    if is_constructor k ds
+    then start k (detail (named (codes "kind") k ds) ∷ []) ++ c (codes "value") (way.First n)
+    else []
+head_word n r k ds c = []
+
+-- A constructor behind it is the rest of its function and its end.
+abbrev pub tail_word : ℕ → Rule → Kind → Docs → OneField → List Entry
+tail_word n rule.Method k ds c =
+    if is_constructor k ds then c (codes "value") (way.Later n) ++ lone item.Close else []
+tail_word n r k ds c = []
+
+-- A function up to there is its parameters, its directives and its first n statements.
+abbrev pub first_word : ℕ → Rule → OneField → List Entry
+first_word n rule.FunctionExpression c =
+    c (codes "params") way.Whole ++ (lone item.Body ++ c (codes "body") (way.First n))
+first_word n rule.Bare c = c (codes "directives") way.Whole ++ c (codes "statements") (way.First n)
+first_word n r c = []
+
+-- The rest of a function is its later statements.
+abbrev pub later_word : ℕ → Rule → OneField → List Entry
+later_word n rule.FunctionExpression c = c (codes "body") (way.Later n)
+later_word n rule.Bare c = c (codes "statements") (way.Later n)
+later_word n r c = []
+
+-- A key under which a value is put is the text of its name, or else what it does.
+abbrev pub put_key_word : Known → Rule → Kind → ℕ → Docs → OneField → AllFields → List Entry
+put_key_word f rule.PropertyName k i ds c fs = spelled item.Str (detail (first ds))
+put_key_word f r k i ds c fs = whole_word f r k i ds c fs
+
+-- a field of an object with that key and no value
+abbrev pub empty_field : Bool → List Entry → List Entry
+empty_field s key =
+    detailed item.Field nil (flag s ∷ flag false ∷ []) ++ (key ++ (lone item.Nil ++ lone item.Define))
+
+-- the empty fields of these names
+abbrev pub empty_fields : List (List ℕ) → List Entry
+empty_fields [] = []
+empty_fields (x ∷ xs) = empty_field false (spelled item.Str (text x)) ++ empty_fields xs
+
+-- the parameter of that name and group is put on the object, under its name
+abbrev pub property_put : List ℕ → Option ℕ → List Entry
+property_put x g =
+    lone item.This
+    ++ (spelled item.Str (text x) ++ (use_word x g ++ (lone item.Put ++ lone item.Eval)))
+
+abbrev pub property_puts : Names → List Entry
+property_puts [] = []
+property_puts (n ∷ ns) = property_put n.0 n.1 ++ property_puts ns
+
+-- what the constructor puts on the object: parameters, and the values of fields that move into it
+abbrev pub puts_word : Gaining → AllFields → List Entry
+puts_word g fs = property_puts g.properties ++ fs way.Puts
+
+-- what it is given is passed on, where the class extends another
+abbrev pub passing : Bool → List Entry
+passing d = if d then lone item.PassOn else []
+
+-- the constructor that is made for a class without one
+abbrev pub made_constructor : Gaining → AllFields → List Entry
+made_constructor g fs =
+    start kind.MethodDefinition (text (codes "constructor") ∷ [])
+    ++ (lone item.Nil
+    ++ (lone item.Body ++ (passing g.is_derived ++ (puts_word g fs ++ lone item.Close))))
+
+-- the constructor, with what it puts behind that many statements
+abbrev pub gaining_constructor : Gaining → AllFields → List Entry
+gaining_constructor g fs =
+    if g.has_constructor
+    then fs (way.Head g.place) ++ (puts_word g fs ++ fs (way.Tail g.place))
+    else made_constructor g fs
+
+-- The body of such a class has empty fields in front and that constructor, and is else read by its own rule.
+abbrev pub gaining_word : Gaining → Way → List Entry → AllFields → List Entry
+gaining_word g way.Fields own fs = empty_fields g.fields ++ fs way.Fields
+gaining_word g way.Constructor own fs = gaining_constructor g fs
+gaining_word g w own fs = own
+
+-- the key of a put: what the made name holds, or what is written
+abbrev pub key_at_put : Option (List ℕ) → OneField → List Entry
+key_at_put None c = c (codes "key") way.PutKey
+key_at_put (Some t) c = spelled item.Made (text t)
+
+-- the value of a field is put under its key
+abbrev pub field_put : Option (List ℕ) → OneField → List Entry
+field_put t c =
+    lone item.This
+    ++ (key_at_put t c ++ (c (codes "value") way.Whole ++ (lone item.Put ++ lone item.Eval)))
+
+-- the key of a field that moves, among the keys: a made name holds it, or it is read as ever where the field stays
+abbrev pub moved_key : Option (List ℕ) → Bool → OneField → List Entry
+moved_key None s c = if s then c (codes "decorators") way.Whole ++ c (codes "key") way.Keyed else []
+moved_key (Some t) s c = c (codes "key") way.Whole ++ spelled item.Keep (text t)
+
+-- A field that moves is its key, the put of its value where that belongs, and, where it stays, an empty field.
+abbrev pub moving_word : Moving → Way → OneField → List Entry
+moving_word m way.Keys c = moved_key m.tag m.stays c
+moving_word m way.Statics c = if m.is_static then field_put m.tag c else []
+moving_word m way.Fields c =
+    if m.stays then empty_field m.is_static (c (codes "key") way.KeyText) else []
+moving_word m way.Puts c = if m.is_static then [] else field_put m.tag c
+moving_word m w c = []
+
+-- A field that goes, but for the effects of its key, is its key, which is dropped.
+abbrev pub left_word : Way → OneField → List Entry
+left_word way.Keys c = dropped (c (codes "key") way.Whole)
+left_word w c = []

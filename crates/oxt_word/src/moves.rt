@@ -1,0 +1,431 @@
+//! The effect word of classes whose constructor puts more on the object than is written in it, and of fields whose values
+//! are put elsewhere.
+ghost use Rattle.std.specs.Prelude.{◌≡◌, ◌∷◌, [], ◌++◌, OnOk, codes, false, map, option_map};
+ghost use Rattle.oxt_facts.specs.Entry.{entries, spelled};
+ghost use Rattle.oxt_facts.specs.Told.{gaining_view, moving_view, names_view};
+ghost use Rattle.oxt_forms.specs.Details.{start};
+ghost use Rattle.oxt_grammar.specs.declared.kind.Kind.TheVariants as kind;
+ghost use Rattle.oxt_tree.specs.Doc.{text};
+ghost use Rattle.oxt_tree.specs.Names.{name_bytes};
+ghost use Rattle.oxt_tree.specs.View.{docs_in};
+ghost use Rattle.oxt_word.specs.Classes.{empty_field, empty_fields, field_put, first_word, gaining_constructor, gaining_word, head_word, key_at_put, later_word, left_word, made_constructor, moved_key, moving_word, passing, property_put, property_puts, put_key_word, puts_word, tail_word};
+ghost use Rattle.oxt_word.specs.RuleOf.{rule_of};
+ghost use Rattle.oxt_word.specs.Word.{all_fields, each_field, own_word};
+
+use crate::class::put_element_key;
+use crate::enums::{put_operation, put_text, put_use};
+use crate::namespaces::put_made;
+use crate::rule::Rule;
+use crate::way::Way;
+use crate::word::{put_field, put_fields, put_own, put_whole};
+use oxt_facts::facts::Facts;
+use oxt_facts::item::{Atom, Item, ItemKind};
+use oxt_facts::told::{ToldClass, ToldField, ToldName};
+use oxt_forms::put::{
+    field_atom, put_dropped, put_field_start, put_first, put_lone, put_spelled, put_start,
+};
+use oxt_grammar::field::Field;
+use oxt_grammar::kind::Kind;
+use oxt_tree::ids::OutOfMemory;
+use oxt_tree::name::Name;
+use oxt_tree::tree::Node;
+use std::alloc::Global;
+use std::vec;
+
+/// Puts the body of a class whose constructor puts more on the object than is written in it, read that way.
+#[cycle(word)]
+pub(crate) fn put_gaining(
+    facts: &Facts,
+    class: &ToldClass,
+    way: Way,
+    node: &Node,
+    out: &mut Vec<Item>,
+) -> Result<(), OutOfMemory>
+    ensures { OnOk result (entries out.new.items
+        ≡ entries out.old.items ++ gaining_word (gaining_view class.now) way
+        (own_word facts.now way (rule_of node.now.kind) node.now.kind node.now.id.0 (docs_in node.now.parts.items)
+        (each_field facts.now node.now) (all_fields facts.now node.now)) (all_fields facts.now node.now)) }
+{
+    match way {
+        Way::Fields => put_gained_fields(facts, class, node, out),
+        Way::Constructor => put_gaining_constructor(facts, class, node, out),
+        _ => put_own(facts, way, node, out),
+    }
+}
+
+/// Puts the fields of such a class, with empty ones in front.
+#[cycle(word)]
+fn put_gained_fields(
+    facts: &Facts,
+    class: &ToldClass,
+    node: &Node,
+    out: &mut Vec<Item>,
+) -> Result<(), OutOfMemory>
+    ensures { OnOk result (entries out.new.items
+        ≡ entries out.old.items ++ (empty_fields (map name_bytes class.now.fields.items)
+        ++ all_fields facts.now node.now Way.Fields)) }
+{
+    put_empty_fields(facts.memory(), class.fields.as_slice(), out)?;
+    put_fields(facts, node.kind.rows(), &node.parts, Way::Fields, out)
+}
+
+/// Puts the constructor of such a class, which is made where none stands.
+#[cycle(word)]
+fn put_gaining_constructor(
+    facts: &Facts,
+    class: &ToldClass,
+    node: &Node,
+    out: &mut Vec<Item>,
+) -> Result<(), OutOfMemory>
+    ensures { OnOk result (entries out.new.items ≡ entries out.old.items
+        ++ gaining_constructor (gaining_view class.now) (all_fields facts.now node.now)) }
+{
+    if class.has_constructor {
+        put_fields(
+            facts,
+            node.kind.rows(),
+            &node.parts,
+            Way::Head(class.place),
+            out,
+        )?;
+        put_puts(facts, class, node, out)?;
+        return put_fields(
+            facts,
+            node.kind.rows(),
+            &node.parts,
+            Way::Tail(class.place),
+            out,
+        );
+    }
+    put_made_constructor(facts, class, node, out)
+}
+
+/// Puts the constructor that is made for a class without one.
+#[cycle(word)]
+fn put_made_constructor(
+    facts: &Facts,
+    class: &ToldClass,
+    node: &Node,
+    out: &mut Vec<Item>,
+) -> Result<(), OutOfMemory>
+    ensures { OnOk result (entries out.new.items ≡ entries out.old.items
+        ++ made_constructor (gaining_view class.now) (all_fields facts.now node.now)) }
+{
+    put_constructor_start(facts.memory(), out)?;
+    put_lone(facts.memory(), ItemKind::Nil, out)?;
+    put_lone(facts.memory(), ItemKind::Body, out)?;
+    put_passing(facts.memory(), class.is_derived, out)?;
+    put_puts(facts, class, node, out)?;
+    put_lone(facts.memory(), ItemKind::Close, out)
+}
+
+/// Puts the start of a constructor that is made.
+fn put_constructor_start(alloc: Global, out: &mut Vec<Item>) -> Result<(), OutOfMemory>
+    ensures { OnOk result (entries out.new.items
+        ≡ entries out.old.items ++ start kind.MethodDefinition (text (codes "constructor") ∷ [])) }
+{
+    put_operation(alloc, Kind::MethodDefinition, "constructor", out)
+}
+
+/// Puts that a constructor passes on what it is given, where its class extends another.
+fn put_passing(alloc: Global, is_derived: bool, out: &mut Vec<Item>) -> Result<(), OutOfMemory>
+    ensures { OnOk result (entries out.new.items ≡ entries out.old.items ++ passing is_derived) }
+{
+    if is_derived {
+        return put_lone(alloc, ItemKind::PassOn, out);
+    }
+    Ok(())
+}
+
+/// Puts what the constructor puts on the object: parameters, and the values of fields that move into it.
+#[cycle(word)]
+fn put_puts(
+    facts: &Facts,
+    class: &ToldClass,
+    node: &Node,
+    out: &mut Vec<Item>,
+) -> Result<(), OutOfMemory>
+    ensures { OnOk result (entries out.new.items
+        ≡ entries out.old.items ++ puts_word (gaining_view class.now) (all_fields facts.now node.now)) }
+{
+    put_properties(facts.memory(), class.properties.as_slice(), out)?;
+    put_fields(facts, node.kind.rows(), &node.parts, Way::Puts, out)
+}
+
+/// Puts that each of the parameters is put on the object.
+#[tactic(auto, using(crate::proofs::Gains::one_property, crate::proofs::Gains::no_property))]
+fn put_properties(
+    alloc: Global,
+    properties: &[ToldName],
+    out: &mut Vec<Item>,
+) -> Result<(), OutOfMemory>
+    ensures { OnOk result (entries out.new.items
+        ≡ entries out.old.items ++ property_puts (names_view properties.now)) }
+{
+    for property in properties {
+        put_property(alloc, property, out)?;
+    }
+    Ok(())
+}
+
+/// Puts that the parameter is put on the object, under its name.
+fn put_property(alloc: Global, property: &ToldName, out: &mut Vec<Item>) -> Result<(), OutOfMemory>
+    ensures { OnOk result (entries out.new.items ≡ entries out.old.items
+        ++ property_put (name_bytes property.now.name) property.now.group) }
+{
+    put_lone(alloc, ItemKind::This, out)?;
+    put_text(alloc, &property.name, out)?;
+    put_use(alloc, &property.name, property.group, out)?;
+    put_lone(alloc, ItemKind::Put, out)?;
+    put_lone(alloc, ItemKind::Eval, out)
+}
+
+/// Puts an empty field of each of these names.
+#[tactic(auto, using(crate::proofs::Gains::one_field, crate::proofs::Gains::no_field))]
+fn put_empty_fields(alloc: Global, names: &[Name], out: &mut Vec<Item>) -> Result<(), OutOfMemory>
+    ensures { OnOk result (entries out.new.items
+        ≡ entries out.old.items ++ empty_fields (map name_bytes names.now)) }
+{
+    for name in names {
+        put_empty_field(alloc, name, out)?;
+    }
+    Ok(())
+}
+
+/// Puts an empty field of that name.
+fn put_empty_field(alloc: Global, name: &Name, out: &mut Vec<Item>) -> Result<(), OutOfMemory>
+    ensures { OnOk result (entries out.new.items
+        ≡ entries out.old.items ++ empty_field false (spelled ItemKind.Str (text (name_bytes name.now)))) }
+{
+    put_field_start(alloc, false, false, out)?;
+    put_text(alloc, name, out)?;
+    put_lone(alloc, ItemKind::Nil, out)?;
+    put_lone(alloc, ItemKind::Define, out)
+}
+
+/// Puts a constructor up to that many statements of its body.
+#[cycle(word)]
+pub(crate) fn put_head(
+    facts: &Facts,
+    count: usize,
+    rule: Rule,
+    node: &Node,
+    out: &mut Vec<Item>,
+) -> Result<(), OutOfMemory>
+    ensures { OnOk result (entries out.new.items ≡ entries out.old.items
+        ++ head_word count rule node.now.kind (docs_in node.now.parts.items) (each_field facts.now node.now)) }
+{
+    match rule {
+        Rule::Method if node.holds_text(Field::Kind, "constructor") => {
+            let details = vec![in facts.memory(); field_atom(node, Field::Kind)?]?;
+            put_start(node.kind, details, out)?;
+            put_field(facts, node, Field::Value, Way::First(count), out)
+        }
+        _ => Ok(()),
+    }
+}
+
+/// Puts a constructor behind that many statements of its body.
+#[cycle(word)]
+pub(crate) fn put_tail(
+    facts: &Facts,
+    count: usize,
+    rule: Rule,
+    node: &Node,
+    out: &mut Vec<Item>,
+) -> Result<(), OutOfMemory>
+    ensures { OnOk result (entries out.new.items ≡ entries out.old.items
+        ++ tail_word count rule node.now.kind (docs_in node.now.parts.items) (each_field facts.now node.now)) }
+{
+    match rule {
+        Rule::Method if node.holds_text(Field::Kind, "constructor") => {
+            put_field(facts, node, Field::Value, Way::Later(count), out)?;
+            put_lone(facts.memory(), ItemKind::Close, out)
+        }
+        _ => Ok(()),
+    }
+}
+
+/// Puts a function up to that many statements of its body, or the body up to there.
+#[cycle(word)]
+pub(crate) fn put_opening(
+    facts: &Facts,
+    count: usize,
+    rule: Rule,
+    node: &Node,
+    out: &mut Vec<Item>,
+) -> Result<(), OutOfMemory>
+    ensures { OnOk result (entries out.new.items
+        ≡ entries out.old.items ++ first_word count rule (each_field facts.now node.now)) }
+{
+    match rule {
+        Rule::FunctionExpression => {
+            put_field(facts, node, Field::Params, Way::Whole, out)?;
+            put_lone(facts.memory(), ItemKind::Body, out)?;
+            put_field(facts, node, Field::Body, Way::First(count), out)
+        }
+        Rule::Bare => {
+            put_field(facts, node, Field::Directives, Way::Whole, out)?;
+            put_field(facts, node, Field::Statements, Way::First(count), out)
+        }
+        _ => Ok(()),
+    }
+}
+
+/// Puts what stands behind that many statements of a function's body.
+#[cycle(word)]
+pub(crate) fn put_ending(
+    facts: &Facts,
+    count: usize,
+    rule: Rule,
+    node: &Node,
+    out: &mut Vec<Item>,
+) -> Result<(), OutOfMemory>
+    ensures { OnOk result (entries out.new.items
+        ≡ entries out.old.items ++ later_word count rule (each_field facts.now node.now)) }
+{
+    match rule {
+        Rule::FunctionExpression => { put_field(facts, node, Field::Body, Way::Later(count), out) }
+        Rule::Bare => put_field(facts, node, Field::Statements, Way::Later(count), out),
+        _ => Ok(()),
+    }
+}
+
+/// Puts a key under which a value is put.
+#[cycle(word)]
+pub(crate) fn put_put_key(
+    facts: &Facts,
+    rule: Rule,
+    node: &Node,
+    out: &mut Vec<Item>,
+) -> Result<(), OutOfMemory>
+    ensures { OnOk result (entries out.new.items
+        ≡ entries out.old.items ++ put_key_word facts.now rule node.now.kind node.now.id.0 (docs_in node.now.parts.items)
+        (each_field facts.now node.now) (all_fields facts.now node.now)) }
+{
+    match rule {
+        Rule::PropertyName => put_first(facts.memory(), ItemKind::Str, node, out),
+        _ => put_whole(facts, rule, node, out),
+    }
+}
+
+/// Puts a field whose value is put elsewhere, read that way.
+#[cycle(word)]
+pub(crate) fn put_moving(
+    facts: &Facts,
+    field: &ToldField,
+    way: Way,
+    node: &Node,
+    out: &mut Vec<Item>,
+) -> Result<(), OutOfMemory>
+    ensures { OnOk result (entries out.new.items
+        ≡ entries out.old.items ++ moving_word (moving_view field.now) way (each_field facts.now node.now)) }
+{
+    match way {
+        Way::Keys => put_moved_key(facts, field, node, out),
+        Way::Statics if field.is_static => put_field_put(facts, field, node, out),
+        Way::Fields if field.stays => put_emptied(facts, field.is_static, node, out),
+        Way::Puts if !field.is_static => put_field_put(facts, field, node, out),
+        _ => Ok(()),
+    }
+}
+
+/// Puts the key of a field that moves, which a made name holds, or which is read as ever where the field stays.
+#[cycle(word)]
+fn put_moved_key(
+    facts: &Facts,
+    field: &ToldField,
+    node: &Node,
+    out: &mut Vec<Item>,
+) -> Result<(), OutOfMemory>
+    ensures { OnOk result (entries out.new.items ≡ entries out.old.items
+        ++ moved_key (option_map name_bytes field.now.tag) field.now.stays (each_field facts.now node.now)) }
+{
+    match &field.tag {
+        Some(tag) => {
+            put_field(facts, node, Field::Key, Way::Whole, out)?;
+            put_spelled(
+                facts.memory(),
+                ItemKind::Keep,
+                Atom::Text(tag.share()?),
+                out,
+            )
+        }
+        None if field.stays => put_element_key(facts, node, out),
+        None => Ok(()),
+    }
+}
+
+/// Puts a field without its value.
+#[cycle(word)]
+fn put_emptied(
+    facts: &Facts,
+    is_static: bool,
+    node: &Node,
+    out: &mut Vec<Item>,
+) -> Result<(), OutOfMemory>
+    ensures { OnOk result (entries out.new.items ≡ entries out.old.items
+        ++ empty_field is_static (each_field facts.now node.now (codes "key") Way.KeyText)) }
+{
+    put_field_start(facts.memory(), is_static, false, out)?;
+    put_field(facts, node, Field::Key, Way::KeyText, out)?;
+    put_lone(facts.memory(), ItemKind::Nil, out)?;
+    put_lone(facts.memory(), ItemKind::Define, out)
+}
+
+/// Puts that the value of a field is put under its key.
+#[cycle(word)]
+fn put_field_put(
+    facts: &Facts,
+    field: &ToldField,
+    node: &Node,
+    out: &mut Vec<Item>,
+) -> Result<(), OutOfMemory>
+    ensures { OnOk result (entries out.new.items ≡ entries out.old.items
+        ++ field_put (option_map name_bytes field.now.tag) (each_field facts.now node.now)) }
+{
+    put_lone(facts.memory(), ItemKind::This, out)?;
+    put_key_at_put(facts, field, node, out)?;
+    put_field(facts, node, Field::Value, Way::Whole, out)?;
+    put_lone(facts.memory(), ItemKind::Put, out)?;
+    put_lone(facts.memory(), ItemKind::Eval, out)
+}
+
+/// Puts the key of that put: what a made name holds, or what is written.
+#[cycle(word)]
+fn put_key_at_put(
+    facts: &Facts,
+    field: &ToldField,
+    node: &Node,
+    out: &mut Vec<Item>,
+) -> Result<(), OutOfMemory>
+    ensures { OnOk result (entries out.new.items ≡ entries out.old.items
+        ++ key_at_put (option_map name_bytes field.now.tag) (each_field facts.now node.now)) }
+{
+    match &field.tag {
+        Some(tag) => put_made(facts.memory(), tag, out),
+        None => put_field(facts, node, Field::Key, Way::PutKey, out),
+    }
+}
+
+/// Puts a field that goes, but for the effects of its key.
+#[cycle(word)]
+#[tactic(auto, using(oxt_forms::proofs::Drops::behind))]
+pub(crate) fn put_left(
+    facts: &Facts,
+    way: Way,
+    node: &Node,
+    out: &mut Vec<Item>,
+) -> Result<(), OutOfMemory>
+    ensures { OnOk result (entries out.new.items
+        ≡ entries out.old.items ++ left_word way (each_field facts.now node.now)) }
+{
+    match way {
+        Way::Keys => {
+            let from = out.len();
+            put_field(facts, node, Field::Key, Way::Whole, out)?;
+            put_dropped(facts.memory(), from, out)
+        }
+        _ => Ok(()),
+    }
+}
