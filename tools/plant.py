@@ -7,7 +7,7 @@ The number of the bug is where the program's span starts, so that one program se
 that erases types stand in place of one of its hooks, on examples/forms.json. Those of the other passes leave out one of their
 hooks, or put something else at one place of what they have made: for enums on examples/enums.json, for namespaces, modules
 and the extensions in their names on examples/namespaces.json, for classes on examples/fields.json, where fields move and empty ones
-go, where empty ones go, and where all stay."""
+go, where empty ones go, and where all stay, and for decorators on examples/decorators.json."""
 import json
 import re
 import shutil
@@ -21,7 +21,8 @@ FLAGS = ("--optimize-enums", "--optimize-const-enums", "--module=commonjs", "--r
 MOVED, DROPPED = ("--set-public-class-fields", "--remove-empty-fields"), ("--remove-empty-fields",)
 ENUMS, NAMESPACES = "crates/oxt_lower/src/pass.rt", "crates/oxt_lower/src/namespace.rt"
 MODULES, EXTENSIONS = "crates/oxt_erase/src/module.rt", "crates/oxt_erase/src/extensions.rt"
-CLASSES = "crates/oxt_class/src/pass.rt"
+CLASSES, DECORATORS = "crates/oxt_class/src/pass.rt", "crates/oxt_decor/src/legacy.rt"
+LEGACY = ("--legacy",)
 NOTHING = "{}"
 GONE = "Part::List(Vec::new(*node.parts.allocator()))"
 
@@ -224,6 +225,53 @@ STAYING_BUGS = [
     ("body.4.body.body", "swapped(old, 0)?"),
 ]
 
+# The elements of a decorated class, the calls of its accessor and of its method, and its own call behind the assignments.
+DECORATED = "body.2.declarations.0.init.body.body"
+ACCESSOR_CALL, METHOD_CALL, CLASS_CALL = "body.3.expression", "body.4.expression", "body.5.expression.right.right"
+
+# Where decorators are lowered: the hooks of the pass, and places in what it has made.
+DECORATOR_BUGS = [
+    (DECORATORS, "EnterClass"),
+    (DECORATORS, "ExitMethodDefinition"),
+    (DECORATORS, "ExitClass"),
+    (DECORATORS, "ExitClassAtEnd"),
+    (DECORATORS, "ExitStatement"),
+    ("body", "without(old, 1)"),
+    ("body", "without(old, 3)"),
+    ("body", "without(old, 4)"),
+    ("body", "without(old, 5)"),
+    ("body", "without(old, 6)"),
+    ("body", "swapped(old, 3)?"),
+    ("body", "swapped(old, 4)?"),
+    ("body", "swapped(old, 5)?"),
+    ("body", "doubled(alloc, old, 4, ids)?"),
+    ("body.2.kind", "Part::Word(Word::Const)"),
+    (f"{ACCESSOR_CALL}.arguments.0.elements", "without_first(old)"),
+    (f"{ACCESSOR_CALL}.arguments.1", "inside(old, Field::Object)"),
+    (f"{ACCESSOR_CALL}.arguments.2.value", text("length")),
+    (f"{ACCESSOR_CALL}.arguments.3", name("log")),
+    (f"{ACCESSOR_CALL}.callee.property.name", text("decorateParam")),
+    (f"{METHOD_CALL}.arguments.0.elements", "swapped(old, 0)?"),
+    (f"{METHOD_CALL}.arguments.0.elements.1.arguments.0.value", "Part::Number(1)"),
+    ("body.5.expression", "inside(old, Field::Right)"),
+    ("body.5.expression.right", "inside(old, Field::Right)"),
+    (f"{CLASS_CALL}.arguments.0.elements", "swapped(old, 0)?"),
+    (f"{CLASS_CALL}.arguments.0.elements", "without_last(old)"),
+    (f"{CLASS_CALL}.arguments.1.name", text("_Users")),
+    ("body.6.specifiers.0.local.name", text("_Users")),
+    (DECORATED, "without(old, 0)"),
+    (DECORATED, "without(old, 3)"),
+    (DECORATED, "without(old, 4)"),
+    (DECORATED, "without(old, 5)"),
+    (f"{DECORATED}.3.key.name", text("size")),
+    (f"{DECORATED}.3.value", "Part::Nothing"),
+    (f"{DECORATED}.4.static", "Part::Flag(true)"),
+    (f"{DECORATED}.4.value.body.statements.0.argument.field.name", text("last")),
+    (f"{DECORATED}.5.value.body.statements", "without(old, 0)"),
+    (f"{DECORATED}.6.value.body.statements.1.expression.left.object.name", text("Users")),
+    (f"{DECORATED}.7.value.body.statements.0.argument.arguments.0.callee.object.name", text("Users")),
+]
+
 # What they are written with.
 HELPERS = """
 fn field<'a>(node: &'a mut Node, field: Field) -> &'a mut Part {
@@ -316,12 +364,13 @@ RUNS = [
     ("fields", MOVED, MOVED_BUGS),
     ("fields", DROPPED, DROPPED_BUGS),
     ("fields", (), STAYING_BUGS),
+    ("decorators", LEGACY, DECORATOR_BUGS),
 ]
 BUGS = dict(enumerate([bug for _, _, bugs in RUNS for bug in bugs], 1))
 # Those of the passes but that which erases types: a hook that is left out, or a place and what comes there.
 LATER_BUGS = {number: bug for number, bug in BUGS.items() if number > len(ERASER_BUGS)}
 # The files of the passes.
-PASSES = (ENUMS, NAMESPACES, MODULES, EXTENSIONS, CLASSES)
+PASSES = (ENUMS, NAMESPACES, MODULES, EXTENSIONS, CLASSES, DECORATORS)
 NUMBERED = "if hook == Hook::EnterProgram { self.bug = node.span.start; }"
 
 
@@ -426,6 +475,12 @@ def planted_classes(source):
                                     ("remove_class_fields_without_initializer,\n        }\n", "remove_class_fields_without_initializer,\n            bug: 0,\n        }\n")), CLASSES))
 
 
+def planted_decorators(source):
+    """The pass that lowers decorators with its bugs in it."""
+    return with_lines(*left_out(put(source, ("decorated: Option<DecoratedClass>,\n}", "decorated: Option<DecoratedClass>,\n    bug: u32,\n}"),
+                                    ("            decorated: None,\n", "            decorated: None,\n            bug: 0,\n")), DECORATORS))
+
+
 PLANTED = {
     "crates/oxt_erase/src/pass.rt": planted_eraser,
     ENUMS: planted_enums,
@@ -433,6 +488,7 @@ PLANTED = {
     MODULES: planted_modules,
     EXTENSIONS: planted_extensions,
     CLASSES: planted_classes,
+    DECORATORS: planted_decorators,
 }
 
 

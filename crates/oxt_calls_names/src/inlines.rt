@@ -79,7 +79,7 @@ fn print_inlined(
     options: &TypeScriptOptions,
     lines: &mut Lines,
 ) -> Result<(), Stopped> {
-    let kept = kept_nodes(alloc, program, scoping, options)?;
+    let kept = kept_nodes(alloc, program, scoping, options, false)?;
     let inlined = inlined_expressions(alloc, program, scoping, &kept, options)?;
     lines.begin("inlined")?;
     for expression in &inlined {
@@ -98,8 +98,8 @@ fn print_dropped(
     options: &TypeScriptOptions,
     lines: &mut Lines,
 ) -> Result<(), Stopped> {
-    let kept = kept_nodes(alloc, program, scoping, options)?;
-    let dropped = dropped_blocks(alloc, program, scoping, &kept, options)?;
+    let kept = kept_nodes(alloc, program, scoping, options, false)?;
+    let dropped = dropped_blocks(alloc, program, scoping, &kept, options, false)?;
     lines.begin("dropped")?;
     for block in &dropped {
         lines.number_value(block.0)?;

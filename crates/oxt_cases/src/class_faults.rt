@@ -33,10 +33,11 @@ fn lines_from(
     scoping: &Scoping,
     options: &TransformOptions,
 ) -> Result<String, OutOfMemory> {
-    let plan = plan_of(alloc, program, scoping, &options.typescript)?;
+    let plan = plan_of(alloc, program, scoping, options)?;
     let rules = FieldRules::new(options, &plan);
     let mut lines = String::new(alloc);
-    push_misplaced(first_misplaced_element(program, rules), &mut lines)?;
+    let misplaced = first_misplaced_element(alloc, program, rules)?;
+    push_misplaced(misplaced, &mut lines)?;
     let captured = first_moved_capture(alloc, program, scoping, rules)?;
     push_captured(captured, &mut lines)?;
     Ok(lines)
@@ -58,6 +59,7 @@ fn word_of(fault: ClassFault) -> &'static str {
         ClassFault::Super => "super",
         ClassFault::Key => "key",
         ClassFault::Field => "field",
+        ClassFault::Accessor => "accessor",
     }
 }
 

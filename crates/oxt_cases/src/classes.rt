@@ -1,5 +1,6 @@
 //! What is told of classes and of their fields.
 
+use crate::decorated::push_call_of;
 use crate::told::push_if;
 use oxt_facts::told::{ToldClass, ToldField};
 use oxt_tree::ids::OutOfMemory;
@@ -18,6 +19,11 @@ pub fn push_gains(number: u64, gaining: &ToldClass, lines: &mut String) -> Resul
     for told in &gaining.properties {
         write!(lines, " {}", told.name.as_str())?;
     }
+    match &gaining.alias {
+        Some(alias) => write!(lines, " alias {}", alias.as_str())?,
+        None => {}
+    }
+    push_if(gaining.has_calls, " calls", lines)?;
     push_fields(gaining.fields.as_slice(), lines)
 }
 
@@ -29,7 +35,7 @@ fn push_fields(fields: &[Name], lines: &mut String) -> Result<(), OutOfMemory> {
     Ok(lines.push('\n')?)
 }
 
-/// Puts `NUMBER moves static stays TAG`, with `-` where its key is not kept.
+/// Puts `NUMBER moves static stays TAG last`, with `-` where its key is not kept, and the call, if it gives one.
 ///
 /// # Errors
 ///
@@ -39,8 +45,10 @@ pub fn push_moves(number: u64, moving: &ToldField, lines: &mut String) -> Result
     push_if(moving.is_static, " static", lines)?;
     push_if(moving.stays, " stays", lines)?;
     match &moving.tag {
-        Some(tag) => writeln!(lines, " {}", tag.as_str())?,
-        None => lines.push_str(" -\n")?,
+        Some(tag) => write!(lines, " {}", tag.as_str())?,
+        None => lines.push_str(" -")?,
     }
-    Ok(())
+    push_if(moving.is_last, " last", lines)?;
+    push_call_of(moving.call.as_ref(), lines)?;
+    Ok(lines.push('\n')?)
 }

@@ -25,7 +25,7 @@ fn lines_from(alloc: Global, program: &Node, scoping: &Scoping) -> Result<String
     let mut lines = String::new(alloc);
     push_misnamed(alloc, program, scoping, &mut lines)?;
     push_shadowed(alloc, program, scoping, &mut lines)?;
-    let wide = first_wide(program, scoping);
+    let wide = first_wide(program, scoping, false);
     push_found("wide", wide.map(|member| member.node), &mut lines)?;
     Ok(lines)
 }
@@ -37,7 +37,7 @@ fn push_misnamed(
     scoping: &Scoping,
     lines: &mut String,
 ) -> Result<(), OutOfMemory> {
-    let found = first_misnamed(alloc, program, scoping)?;
+    let found = first_misnamed(alloc, program, scoping, false)?;
     push_found("misnamed", found, lines)
 }
 
@@ -48,7 +48,7 @@ fn push_shadowed(
     scoping: &Scoping,
     lines: &mut String,
 ) -> Result<(), OutOfMemory> {
-    match first_shadowed(alloc, program, scoping)? {
+    match first_shadowed(alloc, program, scoping, false)? {
         Some(ShadowedName { node, name }) => {
             writeln!(lines, "shadowed {} {}", node.0, name.as_str())?;
         }

@@ -58,7 +58,7 @@ fn push_classes(
     lines: &mut String,
 ) -> Result<(), OutOfMemory> {
     let scoping = resolve(alloc, program)?;
-    let plan = plan_of(alloc, program, &scoping, &options.typescript)?;
+    let plan = plan_of(alloc, program, &scoping, options)?;
     let rules = FieldRules::new(options, &plan);
     for node in nodes_of(alloc, program)? {
         if is_class(node) {

@@ -17,12 +17,12 @@ pub fn lines_of(alloc: Global, program: &Node) -> Result<String, OutOfMemory> {
     let mut lines = String::new(alloc);
     for statement in statements {
         let word = match statement.as_node() {
-            Some(statement) => first_level_word(statement),
+            Some(statement) => first_level_word(false, statement),
             None => None,
         };
         push_found(word, &mut lines)?;
     }
-    push_found(first_level_word_in(statements), &mut lines)?;
+    push_found(first_level_word_in(false, statements), &mut lines)?;
     Ok(lines)
 }
 

@@ -1,7 +1,7 @@
 //! Programs with their enums lowered.
 
 use crate::case::push_json;
-use crate::told::plan_of;
+use crate::told::listed_plan;
 use oxt_ctx::context::TraverseCtx;
 use oxt_json_write::write_tree;
 use oxt_lower::pass::TypeScriptEnum;
@@ -54,7 +54,7 @@ fn context_of(
     options: &TypeScriptOptions,
 ) -> Result<TraverseCtx, OutOfMemory> {
     let scoping = resolve(alloc, &program.root)?;
-    let plan = plan_of(alloc, &program.root, &scoping, options)?;
+    let plan = listed_plan(alloc, &program.root, &scoping, options, false)?;
     Ok(TraverseCtx::new(alloc, scoping, plan, STATE, program.ids))
 }
 

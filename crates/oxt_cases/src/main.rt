@@ -24,6 +24,7 @@ mod case;
 mod class_faults;
 mod classes;
 mod constants;
+mod decorated;
 mod differences;
 mod enums;
 mod fault;

@@ -1,9 +1,12 @@
 //! What is told of the nodes of a program.
 use crate::classes::{push_gains, push_moves};
 use crate::constants::push_value;
+use crate::decorated::{push_accessor, push_applied, push_called, push_decorated, push_default};
 use crate::namespaces::{push_export, push_namespace, push_quasi, push_stored};
 use oxt_enum_checks::first::first_blocks;
 use oxt_facts::told::{MemberValue, Told, ToldBlock, ToldMember, ToldNodes};
+use oxt_fields::aliases::alias_uses;
+use oxt_fields::rules::FieldRules;
 use oxt_fields::written::never_written_nodes;
 use oxt_inline::dropped::dropped_blocks;
 use oxt_inline::inlined::inlined_expressions;
@@ -30,12 +33,12 @@ pub fn told_nodes(
     options: &TransformOptions,
 ) -> Result<ToldNodes, OutOfMemory> {
     let scoping = resolve(alloc, program)?;
-    let plan = plan_of(alloc, program, &scoping, &options.typescript)?;
+    let plan = plan_of(alloc, program, &scoping, options)?;
     told_of_source(alloc, program, &scoping, &plan, options)
 }
 
-/// The plan for what is kept of the modules of the program, for its blocks of enums and namespaces, and for the names
-/// that nothing writes to.
+/// The plan for what is kept of the modules of the program, for its blocks of enums and namespaces, for the names
+/// that nothing writes to, and for those that are read as aliases of decorated classes.
 ///
 /// # Errors
 ///
@@ -44,23 +47,43 @@ pub fn plan_of(
     alloc: Global,
     program: &Node,
     scoping: &Scoping,
-    options: &TypeScriptOptions,
+    options: &TransformOptions,
 ) -> Result<Plan, OutOfMemory> {
-    let kept = kept_nodes(alloc, program, scoping, options)?;
+    let legacy = options.decorator.legacy;
+    let mut plan = listed_plan(alloc, program, scoping, &options.typescript, legacy)?;
+    let aliases = alias_uses(alloc, program, scoping, FieldRules::new(options, &plan))?;
+    plan.set_aliases(alloc, aliases)?;
+    Ok(plan)
+}
+
+/// The plan without the names that are read as aliases, where decorators are lowered or not.
+///
+/// # Errors
+///
+/// Fails only where memory runs out.
+pub fn listed_plan(
+    alloc: Global,
+    program: &Node,
+    scoping: &Scoping,
+    typescript: &TypeScriptOptions,
+    legacy: bool,
+) -> Result<Plan, OutOfMemory> {
+    let kept = kept_nodes(alloc, program, scoping, typescript, legacy)?;
     let mut lists = PlanLists::empty(alloc);
     lists.first = first_blocks(alloc, program, scoping)?;
-    lists.inlined = inlined_expressions(alloc, program, scoping, &kept, options)?;
-    lists.dropped = dropped_blocks(alloc, program, scoping, &kept, options)?;
+    lists.inlined = inlined_expressions(alloc, program, scoping, &kept, typescript)?;
+    lists.dropped = dropped_blocks(alloc, program, scoping, &kept, typescript, legacy)?;
     lists.never_written = never_written_nodes(alloc, program, scoping)?;
     lists.kept = kept.into_nodes();
     Plan::new(alloc, lists)
 }
 
 /// A line for each node of which something is told: its number and `block`, `member`, `bare`, `inlined`, `gone`,
-/// `listless`, `strict`, `quasi`, `namespace`, `export`, `stored`, `gains`, `moves` or `key`. Behind it stand the name of
+/// `listless`, `strict`, `quasi`, `namespace`, `export`, `stored`, `gains`, `moves`, `key`, `called`, `accessor`, `decorated`,
+/// `named`, `default`, `applied`, `alias` or `inner`. Behind it stand the name of
 /// the enum, of a block whether it is first, the program's own and pure, of a member its name, its value and whether it
 /// has a name by its value; the constant that is inlined; the two texts of a piece of a template; what is told of
-/// namespaces and classes.
+/// namespaces, classes and decorators.
 ///
 /// # Errors
 ///
@@ -104,9 +127,32 @@ fn push_told(
         Some(Told::Stored(stored)) => push_stored(number, stored, lines),
         Some(Told::Gains(gaining)) => push_gains(number, gaining, lines),
         Some(Told::Moves(moving)) => push_moves(number, moving, lines),
-        Some(Told::LeavesKey) => Ok(writeln!(lines, "{number} key")?),
+        Some(Told::LeavesKey(is_last)) => push_key(number, *is_last, lines),
+        Some(told) => push_legacy(number, told, lines),
         None => Ok(()),
     }
+}
+
+/// Puts the line of a node of which something is told where decorators are lowered.
+fn push_legacy(number: u64, told: &Told, lines: &mut String) -> Result<(), OutOfMemory> {
+    match told {
+        Told::Called(element) => push_called(number, element, lines),
+        Told::Accessor(accessor) => push_accessor(number, accessor, lines),
+        Told::Decorated(class) => push_decorated(number, class, lines),
+        Told::Named(tag) => Ok(writeln!(lines, "{number} named {}", tag.as_str())?),
+        Told::DefaultClass(is_decorated, name) => push_default(number, *is_decorated, name, lines),
+        Told::Applied(place) => push_applied(number, *place, lines),
+        Told::Alias(tag) => Ok(writeln!(lines, "{number} alias {}", tag.as_str())?),
+        Told::Inner(group) => Ok(writeln!(lines, "{number} inner {group}")?),
+        _ => Ok(()),
+    }
+}
+
+/// Puts the line of a field that leaves its key.
+fn push_key(number: u64, is_last: bool, lines: &mut String) -> Result<(), OutOfMemory> {
+    write!(lines, "{number} key")?;
+    push_if(is_last, " last", lines)?;
+    Ok(lines.push('\n')?)
 }
 
 /// Puts the line of an expression that is inlined.

@@ -1,21 +1,42 @@
 -- The rules of fields by a plan are those by the lists of which it was made.
 use Rattle.std.proofs.Common.{ℕ, ◌≡◌, ap, ◌∙◌, sym, subst, List, IfOk, Result, Ok, Err}
 use Rattle.std.proofs.Math.Path.{fun_ext}
-use Rattle.oxt_check.specs.Faults.{code_fault, facts_by, fault_by, rules_by}
+use Rattle.oxt_check.specs.Faults.{code_fault, facts_by, fault_by, rules_by, with_aliases}
+use Rattle.oxt_fields.specs.Aliases.{alias_uses}
 use Rattle.oxt_fields.specs.Rules.{rules_of}
-use Rattle.oxt_options.specs.Facts.{Answers, Facts, constant_at, is_in}
+use Rattle.oxt_options.specs.Facts.{Answers, Facts, alias_at, constant_at, is_in, last_alias}
 use Rattle.oxt_options.specs.Options.{TransformData}
 use Rattle.oxt_scoping.specs.Scoped.{Scoped}
 use Rattle.oxt_tree.specs.Doc.{Doc}
 
-rules_same : (known listed : Facts) (o : TransformData) → Answers known listed → rules_of o (is_in known.never_written) (constant_at known.inlined) ≡ rules_by listed o
+rules_same : (known listed : Facts) (o : TransformData) → Answers known listed → rules_of o (is_in known.never_written) (constant_at known.inlined) (alias_at known.aliases) ≡ rules_by listed o
 rules_same known listed o a =
     let never = fun_ext a.never_written in
     let inlined = fun_ext a.inlined in
+    let aliases = fun_ext a.aliases in
     cc
 
+-- what knows the aliases too says what its lists say
+pub with_known : (known listed all : Facts) (s : Scoped) (d : Doc) (o : TransformData) → Answers known listed → all ≡ record known { aliases = all.aliases }
+    → ((n : ℕ) → alias_at all.aliases n ≡ last_alias (alias_uses s (rules_of o (is_in known.never_written) (constant_at known.inlined) (alias_at known.aliases)) d) n)
+    → Answers all (with_aliases s d o listed)
+with_known known listed all s d o a others put =
+    let kept : all.kept ≡ known.kept = ap (λ f. f.kept) others in
+    let first : all.first ≡ known.first = ap (λ f. f.first) others in
+    let dropped : all.dropped ≡ known.dropped = ap (λ f. f.dropped) others in
+    let inlined : all.inlined ≡ known.inlined = ap (λ f. f.inlined) others in
+    let never : all.never_written ≡ known.never_written = ap (λ f. f.never_written) others in
+    record {
+      kept = λ n. ap (λ l. is_in l n) kept ∙ a.kept n;
+      first = λ n. ap (λ l. is_in l n) first ∙ a.first n;
+      dropped = λ n. ap (λ l. is_in l n) dropped ∙ a.dropped n;
+      inlined = λ n. ap (λ l. constant_at l n) inlined ∙ a.inlined n;
+      never_written = λ n. ap (λ l. is_in l n) never ∙ a.never_written n;
+      aliases = λ n. put n ∙ ap (λ r. last_alias (alias_uses s r d) n) (rules_same known listed o a);
+    }
+
 -- what is at fault in the code of a tree, by its plan, is what is at fault by the lists
-pub fault_of_plan : (known : Facts) (list ks : List ℕ) (s : Scoped) (d : Doc) (o : TransformData) → Answers known (facts_by list s d o) → list ≡ ks → code_fault s (rules_of o (is_in known.never_written) (constant_at known.inlined)) (is_in list) d ≡ fault_by (facts_by ks s d o) s d o
+pub fault_of_plan : (known : Facts) (list ks : List ℕ) (s : Scoped) (d : Doc) (o : TransformData) → Answers known (facts_by list s d o) → list ≡ ks → code_fault s (rules_of o (is_in known.never_written) (constant_at known.inlined) (alias_at known.aliases)) (is_in list) d ≡ fault_by (facts_by ks s d o) s d o
 fault_of_plan known list ks s d o a same =
     ap (λ r. code_fault s r (is_in list) d) (rules_same known (facts_by list s d o) o a)
     ∙ ap (λ ks. fault_by (facts_by ks s d o) s d o) same

@@ -1,6 +1,7 @@
 -- The first captured name of a program, by all that captures.
 use Rattle.std.specs.Prelude.{ℕ, Bool, nat_lt, if◌then◌else◌, Option, None, Some, option_map}
 use Rattle.oxt_check.specs.declared.capture.NameAt.{NameAt}
+use Rattle.oxt_decorator_checks.specs.Moved.{decorator_capture}
 use Rattle.oxt_enum_checks.specs.Shadows.{Shadow, shadowed}
 use Rattle.oxt_faults.specs.Captured.{Capture, captured}
 use Rattle.oxt_faults.specs.Free.{free}
@@ -33,17 +34,24 @@ abbrev pub shadow_capture : Shadow → Capture
 shadow_capture n = record { node = n.node; name = n.name }
 
 -- of the words in initializers that stay as written and of those in namespaces, the one at the node of the lesser number
-abbrev pub captured_word : Scoped → Doc → Option Capture
-captured_word s d = former (option_map word_capture (initializer_word s d)) (option_map word_capture (namespace_word d))
+abbrev pub captured_word : Bool → Scoped → Doc → Option Capture
+captured_word legacy s d =
+    former (option_map word_capture (initializer_word legacy s d)) (option_map word_capture (namespace_word legacy d))
+
+-- of names in classes whose fields move, and in decorators that move
+abbrev pub captured_moved : Scoped → Rules → Doc → Option Capture
+captured_moved s r d = former (moved_capture s r d) (decorator_capture r.legacy d)
 
 -- of names whose declarations are erased, of free names that are made and of names of enums, where that is kept
-abbrev pub captured_spelling : Scoped → (ℕ → Bool) → Doc → Option Capture
-captured_spelling s ks d =
-    former (captured s (is_in (left_out ks d)) d) (former (free s ks d) (option_map shadow_capture (shadowed s d)))
+abbrev pub captured_spelling : Bool → Scoped → (ℕ → Bool) → Doc → Option Capture
+captured_spelling legacy s ks d =
+    former (captured legacy s (is_in (left_out ks d)) d)
+    (former (free legacy s ks d) (option_map shadow_capture (shadowed legacy s d)))
 
 -- The one at the node of the least number of a whole tree, whose fields are lowered by these rules and in which that is
--- kept: of words in initializers that stay as written, of words in namespaces, of names in classes whose fields move, of
--- names whose declarations are erased, of free names that are made, and of names of enums; of several at one node the first
+-- kept: of words in initializers that stay as written, of words in namespaces, of names in classes whose fields move and in
+-- decorators that move, of names whose declarations are erased, of free names that are made, and of names of enums; of several at one node the first
 -- of these.
 abbrev pub first_capture : Scoped → Rules → (ℕ → Bool) → Doc → Option Capture
-first_capture s r ks d = former (captured_word s d) (former (moved_capture s r d) (captured_spelling s ks d))
+first_capture s r ks d =
+    former (captured_word r.legacy s d) (former (captured_moved s r d) (captured_spelling r.legacy s ks d))

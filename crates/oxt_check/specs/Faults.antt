@@ -11,6 +11,7 @@ use Rattle.oxt_enum_checks.specs.Wide.{wide}
 use Rattle.oxt_enum_checks.specs.declared.wide.WideMember.{WideMember}
 use Rattle.oxt_faults.specs.Captured.{Capture}
 use Rattle.oxt_faults.specs.Misplaced.{Misplacement}
+use Rattle.oxt_fields.specs.Aliases.{alias_uses}
 use Rattle.oxt_fields.specs.Rules.{Rules, rules_of}
 use Rattle.oxt_fields.specs.Written.{never_written}
 use Rattle.oxt_inline.specs.DroppedEnums.{dropped}
@@ -18,7 +19,7 @@ use Rattle.oxt_inline.specs.Inlined.{inlined}
 use Rattle.oxt_modules.specs.Kept.{kept}
 use Rattle.oxt_options.specs.Options.{TransformData}
 use Rattle.oxt_tree.specs.Place.{place_of}
-use Rattle.oxt_options.specs.Facts.{Facts, is_in, last_constant}
+use Rattle.oxt_options.specs.Facts.{Facts, is_in, last_alias, last_constant}
 use Rattle.oxt_scoping.specs.Scoped.{Scoped}
 use Rattle.oxt_tree.specs.Doc.{Doc}
 use Rattle.oxt_tree.specs.Syntax.{is_definition_file}
@@ -53,23 +54,31 @@ captured_refusal d c = captured_name c.name (place_text d c.node)
 
 -- What is known of a tree in which that is kept: besides it the blocks that come first in their enums and namespaces, the
 -- blocks that are dropped, the expressions that are inlined with their constants, and the names that nothing writes to.
-abbrev pub facts_by : List ℕ → Scoped → Doc → TransformData → Facts
-facts_by ks s d o =
+abbrev pub listed_by : List ℕ → Scoped → Doc → TransformData → Facts
+listed_by ks s d o =
     record {
       kept = ks;
       first = first_blocks s d;
-      dropped = dropped s (is_in ks) d o.typescript;
+      dropped = dropped s (is_in ks) d o.typescript o.decorator.legacy;
       inlined = inlined s (is_in ks) d o.typescript;
       never_written = never_written s d;
+      aliases = [];
     }
-
--- the same of the source tree, in which what is kept follows from its names
-abbrev pub facts_of : Scoped → Doc → TransformData → Facts
-facts_of s d o = facts_by (kept s d o.typescript) s d o
 
 -- the rules by which the fields of a tree are lowered of which that is known
 abbrev pub rules_by : Facts → TransformData → Rules
-rules_by f o = rules_of o (is_in f.never_written) (last_constant f.inlined)
+rules_by f o = rules_of o (is_in f.never_written) (last_constant f.inlined) (last_alias f.aliases)
+
+-- that, and which names are read as the aliases of decorated classes
+abbrev pub with_aliases : Scoped → Doc → TransformData → Facts → Facts
+with_aliases s d o f = record f { aliases = alias_uses s (rules_by f o) d }
+
+abbrev pub facts_by : List ℕ → Scoped → Doc → TransformData → Facts
+facts_by ks s d o = with_aliases s d o (listed_by ks s d o)
+
+-- the same of the source tree, in which what is kept follows from its names
+abbrev pub facts_of : Scoped → Doc → TransformData → Facts
+facts_of s d o = facts_by (kept s d o.typescript o.decorator.legacy) s d o
 
 -- ---- its first fault
 
@@ -78,7 +87,7 @@ rules_by f o = rules_of o (is_in f.never_written) (last_constant f.inlined)
 abbrev pub place_fault : Scoped → Rules → (ℕ → Bool) → Doc → Option Refusal
 place_fault s r ks d =
     option_or (option_map (misplaced_refusal d) (first_misplacement s r d))
-    (option_or (option_map wide_refusal (wide s d)) (option_map (captured_refusal d) (first_capture s r ks d)))
+    (option_or (option_map wide_refusal (wide r.legacy s d)) (option_map (captured_refusal d) (first_capture s r ks d)))
 
 -- the same of any tree: in a file of definitions, of which nothing is left, nothing is at fault
 abbrev pub code_fault : Scoped → Rules → (ℕ → Bool) → Doc → Option Refusal

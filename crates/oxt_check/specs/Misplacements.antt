@@ -23,6 +23,7 @@ rank misplaced_kind.Super = 4
 rank misplaced_kind.Key = 5
 rank misplaced_kind.Field = 6
 rank misplaced_kind.Decorator = 7
+rank misplaced_kind.Accessor = 8
 
 -- one comes before the other: its node has the lesser number, or it is of an earlier kind at the same node
 abbrev pub is_before : Misplacement → Misplacement → Bool
@@ -40,16 +41,17 @@ of_kind k n = option_map (λ (i : ℕ). (k, i)) n
 
 -- the first that names decide: a function or class behind a namespace of its name, a declaration that does not merge, a
 -- member of an enum or a bare name of one
-abbrev pub named_misplacement : Scoped → Doc → Option Misplacement
-named_misplacement s d =
+abbrev pub named_misplacement : Bool → Scoped → Doc → Option Misplacement
+named_misplacement legacy s d =
     former (of_kind misplaced_kind.Namespace (late_base s d))
-    (former (of_kind misplaced_kind.Merge (first_clash s d)) (of_kind misplaced_kind.Enum (misnamed s d)))
+    (former (of_kind misplaced_kind.Merge (first_clash s d)) (of_kind misplaced_kind.Enum (misnamed legacy s d)))
 
 -- what is misplaced where that is wrong with an element of a class
 abbrev pub element_kind : ClassFault → MisplacedKind
 element_kind class_fault.Super = misplaced_kind.Super
 element_kind class_fault.Key = misplaced_kind.Key
 element_kind class_fault.Field = misplaced_kind.Field
+element_kind class_fault.Accessor = misplaced_kind.Accessor
 
 abbrev pub of_element : ElementFault → Misplacement
 of_element e = (element_kind e.0, e.1)
@@ -61,4 +63,4 @@ class_misplacement r d = option_map of_element (misplaced_element r d)
 -- The first of a whole tree: of all kinds the one at the node of the least number, and of several kinds at one node the
 -- earliest.
 abbrev pub first_misplacement : Scoped → Rules → Doc → Option Misplacement
-first_misplacement s r d = former (misplaced d) (former (named_misplacement s d) (class_misplacement r d))
+first_misplacement s r d = former (misplaced r d) (former (named_misplacement r.legacy s d) (class_misplacement r d))

@@ -3,7 +3,7 @@ use Rattle.std.specs.Prelude.{ℕ, List, ◌++◌, codes, decimal}
 use Rattle.oxt_check.specs.declared.fault.Mismatch.{Mismatch}
 use Rattle.oxt_check.specs.declared.fault.Mismatch.TheVariants.{Shape, Plain, Setting, Item, Owner, Binding}
 use Rattle.oxt_faults.specs.declared.misplaced.MisplacedKind.{MisplacedKind}
-use Rattle.oxt_faults.specs.declared.misplaced.MisplacedKind.TheVariants.{Body, Namespace, Merge, Enum, Super, Key, Field, Decorator}
+use Rattle.oxt_faults.specs.declared.misplaced.MisplacedKind.TheVariants.{Body, Namespace, Merge, Enum, Super, Key, Field, Decorator, Accessor}
 use Rattle.oxt_tree.specs.Names.{name_bytes}
 use Rattle.oxt_tree.specs.declared.ids.Span.{Span}
 
@@ -51,6 +51,7 @@ kind_text Super = codes "super"
 kind_text Key = codes "key"
 kind_text Field = codes "field"
 kind_text Decorator = codes "decorator"
+kind_text Accessor = codes "accessor"
 
 -- the line on standard error
 abbrev pub line_of : Refusal → List ℕ

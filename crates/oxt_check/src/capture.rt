@@ -1,6 +1,6 @@
 //! The first captured name of a program, by all that captures.
 ghost use Rattle.std.specs.Prelude.{◌≡◌, IfOk, option_map};
-ghost use Rattle.oxt_check.specs.Captures.{captured_spelling, captured_word, first_capture, former, name_view, shadow_capture, word_capture};
+ghost use Rattle.oxt_check.specs.Captures.{captured_moved, captured_spelling, captured_word, first_capture, former, name_view, shadow_capture, word_capture};
 ghost use Rattle.oxt_enum_checks.specs.Shadows.{shadow_view};
 ghost use Rattle.oxt_faults.specs.Captured.{capture_view};
 ghost use Rattle.oxt_faults.specs.Earliest.{moved_view};
@@ -10,6 +10,7 @@ ghost use Rattle.oxt_fields.specs.Rules.{rules_view};
 ghost use Rattle.oxt_options.specs.Facts.{is_in};
 ghost use Rattle.oxt_tree.specs.View.{node_doc};
 
+use oxt_decorator_checks::moved::first_moved_decorator;
 use oxt_enum_checks::shadowed::{ShadowedName, first_shadowed};
 use oxt_faults::captured::{CapturedName, first_captured};
 use oxt_faults::free::{FoundFree, first_free};
@@ -35,8 +36,8 @@ pub struct NameAt<'a> {
 }
 
 /// The captured name at the node of the least number: a word in an initializer or a namespace that goes into a function,
-/// a name in a field, a key or a constructor of a class whose fields move, a name whose declaration is erased, a free name
-/// that is made and has a declaration around it, or the name of an enum at a bare name of a member, which is written by
+/// a name in a field, a key or a constructor of a class whose fields move, or in a decorator that moves, a name whose
+/// declaration is erased, a free name that is made and has a declaration around it, or the name of an enum at a bare name of a member, which is written by
 /// way of it. Of several at one node it is the first of these. `scoping` is the table of the program, `rules` say how its
 /// fields are lowered, and `kept` lists what of its imports and exports is kept.
 ///
@@ -53,9 +54,9 @@ pub fn first_capture<'a>(
     ensures { IfOk result (λ found. option_map name_view found
         ≡ first_capture scoping.now (rules_view rules.entry) (is_in kept.now) (node_doc program.now)) }
 {
-    let word = captured_word(alloc, program, scoping)?;
-    let moved = of_moved(first_moved_capture(alloc, program, scoping, rules)?);
-    let spelling = captured_spelling(alloc, program, scoping, kept)?;
+    let word = captured_word(alloc, program, scoping, rules.legacy)?;
+    let moved = captured_moved(alloc, program, scoping, rules)?;
+    let spelling = captured_spelling(alloc, program, scoping, rules.legacy, kept)?;
     Ok(former(word, former(moved, spelling)))
 }
 
@@ -64,13 +65,29 @@ fn captured_word<'a>(
     alloc: Global,
     program: &'a Node,
     scoping: &'a Scoping,
+    legacy: bool,
 ) -> Result<Option<NameAt<'a>>, OutOfMemory>
     ensures { IfOk result (λ found. option_map name_view found
-        ≡ captured_word scoping.now (node_doc program.now)) }
+        ≡ captured_word legacy scoping.now (node_doc program.now)) }
 {
-    let initializer = of_word(first_initializer_word(alloc, program, scoping)?);
-    let namespace = of_word(first_namespace_word(program));
+    let initializer = of_word(first_initializer_word(alloc, legacy, program, scoping)?);
+    let namespace = of_word(first_namespace_word(legacy, program));
     Ok(former(initializer, namespace))
+}
+
+/// The first name in what of a class moves: its fields, their keys, and its decorators.
+fn captured_moved<'a>(
+    alloc: Global,
+    program: &'a Node,
+    scoping: &'a Scoping,
+    rules: FieldRules,
+) -> Result<Option<NameAt<'a>>, OutOfMemory>
+    ensures { IfOk result (λ found. option_map name_view found
+        ≡ captured_moved scoping.now (rules_view rules.entry) (node_doc program.now)) }
+{
+    let field = of_moved(first_moved_capture(alloc, program, scoping, rules)?);
+    let decorator = of_moved(first_moved_decorator(alloc, rules.legacy, program)?);
+    Ok(former(field, decorator))
 }
 
 /// The first name that would mean another declaration.
@@ -78,15 +95,16 @@ fn captured_spelling<'a>(
     alloc: Global,
     program: &'a Node,
     scoping: &'a Scoping,
+    legacy: bool,
     kept: &NodeList,
 ) -> Result<Option<NameAt<'a>>, OutOfMemory>
     ensures { IfOk result (λ found. option_map name_view found
-        ≡ captured_spelling scoping.now (is_in kept.now) (node_doc program.now)) }
+        ≡ captured_spelling legacy scoping.now (is_in kept.now) (node_doc program.now)) }
 {
     let left_out = left_out_names(alloc, program, kept)?;
-    let erased = of_name(first_captured(alloc, program, scoping, &left_out)?);
-    let made = of_free(first_free(program, scoping, kept));
-    let shadowed = of_shadow(first_shadowed(alloc, program, scoping)?);
+    let erased = of_name(first_captured(alloc, legacy, program, scoping, &left_out)?);
+    let made = of_free(first_free(legacy, program, scoping, kept));
+    let shadowed = of_shadow(first_shadowed(alloc, program, scoping, legacy)?);
     Ok(former(erased, former(made, shadowed)))
 }
 

@@ -1,11 +1,12 @@
 //! The check of a program, before any pass changes it.
-ghost use Rattle.std.specs.Prelude.{◌≡◌, None, Some, OnOk, IfOk, IfErr};
+ghost use Rattle.std.specs.Prelude.{◌≡◌, ℕ, None, Some, OnOk, IfOk, IfErr};
 ghost use Rattle.oxt_check.specs.Captures.{name_view};
-ghost use Rattle.oxt_check.specs.Faults.{IsFaultOf, IsThe, captured_refusal, code_fault, facts_by, facts_of, fault_by, first_fault, misplaced_refusal, place_fault, place_text, refusal_in};
+ghost use Rattle.oxt_check.specs.Faults.{IsFaultOf, IsThe, captured_refusal, code_fault, facts_by, facts_of, listed_by, fault_by, first_fault, misplaced_refusal, place_fault, place_text, refusal_in};
 ghost use Rattle.oxt_faults.specs.Misplaced.{misplaced_view};
+ghost use Rattle.oxt_fields.specs.Aliases.{alias_uses};
 ghost use Rattle.oxt_fields.specs.Rules.{rules_of, rules_view};
 ghost use Rattle.oxt_options.specs.Options.{transform_view};
-ghost use Rattle.oxt_options.specs.Facts.{Answers, constant_at, is_in};
+ghost use Rattle.oxt_options.specs.Facts.{Answers, alias_at, constant_at, is_in, last_alias};
 ghost use Rattle.oxt_options.specs.Lists.{numbers_in};
 ghost use Rattle.oxt_tree.specs.Names.{name_bytes};
 ghost use Rattle.oxt_tree.specs.View.{node_doc};
@@ -16,6 +17,7 @@ use crate::misplacement::first_misplacement;
 use oxt_enum_checks::first::first_blocks;
 use oxt_enum_checks::wide::first_wide;
 use oxt_faults::misplaced::Misplaced;
+use oxt_fields::aliases::alias_uses;
 use oxt_fields::rules::FieldRules;
 use oxt_fields::written::never_written_nodes;
 use oxt_inline::dropped::dropped_blocks;
@@ -55,7 +57,13 @@ pub fn check(
     ensures refused { IfErr result
         (λ f. IsFaultOf (refusal_in f) scoping.now (node_doc program.now.root) (transform_view options.now)) }
 {
-    let kept = kept_nodes(alloc, &program.root, scoping, &options.typescript)?;
+    let kept = kept_nodes(
+        alloc,
+        &program.root,
+        scoping,
+        &options.typescript,
+        options.decorator.legacy,
+    )?;
     check_kept(alloc, &program.root, scoping, kept, options)
 }
 
@@ -76,7 +84,8 @@ fn check_kept(
 {
     let nodes = kept.into_nodes();
     let list = list_of(alloc, nodes.as_slice())?;
-    let plan = plan_by(alloc, program, scoping, &list, nodes, options)?;
+    let listed = plan_by(alloc, program, scoping, &list, nodes, options)?;
+    let plan = with_aliases(alloc, program, scoping, listed, options)?;
     check_planned(alloc, program, scoping, &list, plan, options)
 }
 
@@ -91,9 +100,9 @@ fn check_planned(
 ) -> Result<Plan, Fault>
     ensures plan { IfOk result (λ p. p ≡ plan) }
     ensures accepted { OnOk result
-        (code_fault scoping.now (rules_of (transform_view options.now) (is_in plan.never_written) (constant_at plan.inlined)) (is_in kept.now) (node_doc program.now) ≡ None) }
+        (code_fault scoping.now (rules_of (transform_view options.now) (is_in plan.never_written) (constant_at plan.inlined) (alias_at plan.aliases)) (is_in kept.now) (node_doc program.now) ≡ None) }
     ensures refused { IfErr result (λ f. IsThe (refusal_in f)
-        (code_fault scoping.now (rules_of (transform_view options.now) (is_in plan.never_written) (constant_at plan.inlined)) (is_in kept.now) (node_doc program.now))) }
+        (code_fault scoping.now (rules_of (transform_view options.now) (is_in plan.never_written) (constant_at plan.inlined) (alias_at plan.aliases)) (is_in kept.now) (node_doc program.now))) }
 {
     let rules = FieldRules::new(options, &plan);
     match check_code(alloc, program, scoping, rules, kept) {
@@ -140,7 +149,7 @@ fn check_places(
     if let Some(misplaced) = first_misplacement(alloc, program, scoping, rules)? {
         return Err(misplaced_fault(alloc, program, misplaced)?);
     }
-    if let Some(member) = first_wide(program, scoping) {
+    if let Some(member) = first_wide(program, scoping, rules.legacy) {
         return Err(Fault::Wide { span: member.span });
     }
     if let Some(captured) = first_capture(alloc, program, scoping, rules, kept)? {
@@ -194,7 +203,26 @@ fn list_of(alloc: Global, nodes: &[NodeId]) -> Result<NodeList, OutOfMemory>
     NodeList::of(alloc, copy)
 }
 
-/// The plan for the program, in which these nodes are kept, the same as `kept` lists.
+/// The plan, which knows too as whose aliases the program's names are read.
+fn with_aliases(
+    alloc: Global,
+    program: &Node,
+    scoping: &Scoping,
+    mut plan: Plan,
+    options: &TransformOptions,
+) -> Result<Plan, OutOfMemory>
+    ensures others { IfOk result (λ p. p ≡ record plan { aliases = p.aliases }) }
+    ensures aliases { IfOk result (λ p. (n : ℕ) → alias_at p.aliases n ≡ last_alias (alias_uses scoping.now
+        (rules_of (transform_view options.now) (is_in plan.never_written) (constant_at plan.inlined) (alias_at plan.aliases))
+        (node_doc program.now)) n) }
+{
+    let rules = FieldRules::new(options, &plan);
+    let aliases = alias_uses(alloc, program, scoping, rules)?;
+    plan.set_aliases(alloc, aliases)?;
+    Ok(plan)
+}
+
+/// The plan for the program, in which these nodes are kept, the same as `kept` lists; of aliases it knows nothing yet.
 fn plan_by(
     alloc: Global,
     program: &Node,
@@ -205,13 +233,20 @@ fn plan_by(
 ) -> Result<Plan, OutOfMemory>
     requires { numbers_in nodes.items ≡ kept.now }
     ensures { IfOk result
-        (λ plan. Answers plan (facts_by kept.now scoping.now (node_doc program.now) (transform_view options.now))) }
+        (λ plan. Answers plan (listed_by kept.now scoping.now (node_doc program.now) (transform_view options.now))) }
 {
     let typescript = &options.typescript;
     let mut lists = PlanLists::empty(alloc);
     lists.first = first_blocks(alloc, program, scoping)?;
     lists.inlined = inlined_expressions(alloc, program, scoping, kept, typescript)?;
-    lists.dropped = dropped_blocks(alloc, program, scoping, kept, typescript)?;
+    lists.dropped = dropped_blocks(
+        alloc,
+        program,
+        scoping,
+        kept,
+        typescript,
+        options.decorator.legacy,
+    )?;
     lists.never_written = never_written_nodes(alloc, program, scoping)?;
     lists.kept = nodes;
     Plan::new(alloc, lists)

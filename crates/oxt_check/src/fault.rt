@@ -120,6 +120,7 @@ fn kind_text(kind: MisplacedKind) -> &'static str
         MisplacedKind::Key => "key",
         MisplacedKind::Field => "field",
         MisplacedKind::Decorator => "decorator",
+        MisplacedKind::Accessor => "accessor",
     }
 }
 

@@ -34,9 +34,9 @@ pub fn first_misplacement(
     ensures { IfOk result (λ found. option_map misplaced_view found
         ≡ first_misplacement scoping.now (rules_view rules.entry) (node_doc program.now)) }
 {
-    let named = named_misplacement(alloc, program, scoping)?;
-    let of_class = class_misplacement(program, rules);
-    Ok(former(first_misplaced(program), former(named, of_class)))
+    let named = named_misplacement(alloc, program, scoping, rules.legacy)?;
+    let of_class = class_misplacement(alloc, program, rules)?;
+    Ok(former(first_misplaced(program, rules), former(named, of_class)))
 }
 
 /// The first that names decide.
@@ -44,13 +44,14 @@ fn named_misplacement(
     alloc: Global,
     program: &Node,
     scoping: &Scoping,
+    legacy: bool,
 ) -> Result<Option<Misplaced>, OutOfMemory>
     ensures { IfOk result (λ found. option_map misplaced_view found
-        ≡ named_misplacement scoping.now (node_doc program.now)) }
+        ≡ named_misplacement legacy scoping.now (node_doc program.now)) }
 {
     let late = first_late_base(alloc, program, scoping)?;
     let clash = first_clash(alloc, program, scoping)?;
-    let misnamed = first_misnamed(alloc, program, scoping)?;
+    let misnamed = first_misnamed(alloc, program, scoping, legacy)?;
     let merged = former(
         of_kind(MisplacedKind::Merge, clash),
         of_kind(MisplacedKind::Enum, misnamed),
@@ -59,11 +60,16 @@ fn named_misplacement(
 }
 
 /// The first that classes decide.
-fn class_misplacement(program: &Node, rules: FieldRules) -> Option<Misplaced>
-    ensures { option_map misplaced_view result
-        ≡ class_misplacement (rules_view rules.entry) (node_doc program.now) }
+fn class_misplacement(
+    alloc: Global,
+    program: &Node,
+    rules: FieldRules,
+) -> Result<Option<Misplaced>, OutOfMemory>
+    ensures { IfOk result (λ found. option_map misplaced_view found
+        ≡ class_misplacement (rules_view rules.entry) (node_doc program.now)) }
 {
-    of_element(first_misplaced_element(program, rules))
+    let element = first_misplaced_element(alloc, program, rules)?;
+    Ok(of_element(element))
 }
 
 /// The element of a class, as misplaced.
@@ -85,6 +91,7 @@ fn element_kind(fault: ClassFault) -> MisplacedKind
         ClassFault::Super => MisplacedKind::Super,
         ClassFault::Key => MisplacedKind::Key,
         ClassFault::Field => MisplacedKind::Field,
+        ClassFault::Accessor => MisplacedKind::Accessor,
     }
 }
 
@@ -134,5 +141,6 @@ fn rank(kind: MisplacedKind) -> u8
         MisplacedKind::Key => 5,
         MisplacedKind::Field => 6,
         MisplacedKind::Decorator => 7,
+        MisplacedKind::Accessor => 8,
     }
 }

@@ -1,6 +1,6 @@
 //! The elements of a class and the parts of its constructor, to be changed in their places.
 
-use crate::parts::{child_mut, list_mut};
+use oxt_ctx::parts::{child_mut, list_mut};
 use oxt_fields::class::{get_super_call_position, statements_of};
 use oxt_grammar::field::Field;
 use oxt_grammar::kind::Kind;

@@ -3,17 +3,20 @@ ghost use Rattle.std.specs.Prelude.{◌≡◌, ◌<◌, OnOk, length};
 ghost use Rattle.oxt_stores.specs.Frame.{frames};
 ghost use Rattle.oxt_ctx.specs.Made.{but_names_of};
 
-use crate::block::{scope_of_class, sequence_statement, static_block};
 use crate::elements::{constructor_place, elements_mut, put_into};
 use crate::moving::{Moving, move_each};
 use crate::params::take_puts;
+use oxt_ctx::block::{scope_of_class, static_block};
 use oxt_ctx::constructor::create_class_constructor;
 use oxt_ctx::context::TraverseCtx;
+use oxt_ctx::nodes::{make, sequence};
 use oxt_fields::class::is_derived;
 use oxt_fields::fate::hoists_private;
-use oxt_tree::ids::{NodeId, OutOfMemory};
+use oxt_grammar::kind::Kind;
+use oxt_tree::ids::{NodeId, NodeIds, OutOfMemory};
 use oxt_tree::tree::{Node, Part};
 use std::alloc::Global;
+use std::vec;
 
 /// Moves the values of the fields of the class: those of instance fields into the constructor, which is
 /// made where it is needed, behind the parameters that are properties, and those of static fields into
@@ -139,9 +142,21 @@ fn put_block(
         return Ok(());
     }
     let body = sequence_statement(alloc, waiting, &mut ctx.ids)?;
-    let block = static_block(alloc, body, class, ctx)?;
+    let statements = vec![in alloc; Part::Node(body)]?;
+    let block = static_block(statements, class, ctx)?;
     elements.insert(0, Part::Node(block))?;
     Ok(())
+}
+
+/// The statement of these expressions in a row.
+fn sequence_statement(
+    alloc: Global,
+    expressions: Vec<Part>,
+    ids: &mut NodeIds,
+) -> Result<Node, OutOfMemory> {
+    let expression = sequence(expressions, ids)?;
+    let parts = vec![in alloc; expression]?;
+    make(Kind::ExpressionStatement, parts, ids)
 }
 
 /// Puts a constructor of the statements in front of the elements, if there are any.

@@ -3,20 +3,17 @@ ghost use Rattle.std.specs.Prelude.{◌≡◌, ◌<◌, OnOk, length};
 ghost use Rattle.oxt_stores.specs.Frame.{frames};
 ghost use Rattle.oxt_ctx.specs.Made.{but_names_of};
 
-use crate::block::sequence;
 use crate::elements::is_named_constructor;
-use crate::parts::{child_mut, put_field};
 use oxt_ctx::context::TraverseCtx;
-use oxt_ctx::keys::create_computed_key_temp_var;
-use oxt_ctx::maybe::MaybeBoundIdentifier;
-use oxt_ctx::nodes::{computed, make, member};
+use oxt_ctx::keys::{copy_key, create_computed_key_temp_var};
+use oxt_ctx::nodes::{computed, member, private_member, sequence, this_expression};
+use oxt_ctx::parts::{child_mut, put_field};
 use oxt_grammar::field::Field;
 use oxt_grammar::kind::Kind;
-use oxt_names::flags::ReferenceFlags;
-use oxt_tree::ids::{NodeIds, OutOfMemory, Span};
+use oxt_tree::ids::{NodeIds, OutOfMemory};
 use oxt_tree::tree::{Node, Part};
 use std::alloc::Global;
-use std::{mem, vec};
+use std::mem;
 
 /// The member of `this` that a field with that key is. The key is copied.
 pub fn member_at(alloc: Global, key: &Node, ctx: &mut TraverseCtx) -> Result<Node, OutOfMemory>
@@ -24,41 +21,14 @@ pub fn member_at(alloc: Global, key: &Node, ctx: &mut TraverseCtx) -> Result<Nod
     ensures depth { OnOk result
         (length (frames ctx.new.declarations) ≡ length (frames ctx.old.declarations)) }
 {
-    let this = make(Kind::ThisExpression, Vec::new(alloc), &mut ctx.ids)?;
-    let copy = copied(alloc, key, ctx)?;
+    let this = this_expression(alloc, &mut ctx.ids)?;
+    let copy = copy_key(key, ctx)?;
     if key.kind.is(Kind::IdentifierName) {
         member(alloc, this, copy, &mut ctx.ids)
     } else if key.kind.is(Kind::PrivateIdentifier) {
         private_member(alloc, this, copy, &mut ctx.ids)
     } else {
         computed(alloc, this, copy, &mut ctx.ids)
-    }
-}
-
-/// `this.#key`.
-fn private_member(
-    alloc: Global,
-    this: Node,
-    key: Node,
-    ids: &mut NodeIds,
-) -> Result<Node, OutOfMemory> {
-    let parts = vec![in alloc; Part::Node(this), Part::Node(key), Part::Flag(false)]?;
-    make(Kind::PrivateFieldExpression, parts, ids)
-}
-
-/// A copy of the key: a name that is used once more, or a literal.
-fn copied(alloc: Global, key: &Node, ctx: &mut TraverseCtx) -> Result<Node, OutOfMemory>
-    ensures frame { OnOk result (ctx.new ≡ but_names_of ctx.old ctx.new) }
-    ensures depth { OnOk result
-        (length (frames ctx.new.declarations) ≡ length (frames ctx.old.declarations)) }
-{
-    if key.kind.is(Kind::IdentifierReference) {
-        let name = MaybeBoundIdentifier::from_identifier_reference(key, ctx)?;
-        name.create_expression(ReferenceFlags::Read, ctx)
-    } else {
-        let mut copy = key.clone_node(alloc, &mut ctx.ids)?;
-        copy.span = Span::NONE;
-        Ok(copy)
     }
 }
 
@@ -77,7 +47,7 @@ pub fn member_at_variable(
 {
     let (put, read) = create_computed_key_temp_var(key.take_expression(alloc), ctx)?;
     waiting.push(Part::Node(put))?;
-    let this = make(Kind::ThisExpression, Vec::new(alloc), &mut ctx.ids)?;
+    let this = this_expression(alloc, &mut ctx.ids)?;
     computed(alloc, this, read, &mut ctx.ids)
 }
 

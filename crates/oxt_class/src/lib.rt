@@ -2,14 +2,12 @@
 //! and parameters of the constructor put on the object.
 #![tactic(auto)]
 
-mod block;
 mod elements;
 pub mod exit;
 pub mod fields;
 mod keys;
 mod moving;
 pub mod params;
-mod parts;
 pub mod pass;
 pub mod properties;
 

@@ -3,17 +3,18 @@ ghost use Rattle.std.specs.Prelude.{◌≡◌, ◌<◌, OnOk, length};
 ghost use Rattle.oxt_stores.specs.Frame.{frames};
 ghost use Rattle.oxt_ctx.specs.Made.{but_names_of};
 
-use crate::block::static_block;
 use crate::keys::{leave_key, member_at, member_at_variable, take_waiting};
-use crate::parts::{child_mut, take_node};
+use oxt_ctx::block::static_block;
 use oxt_ctx::context::TraverseCtx;
 use oxt_ctx::nodes::{assignment, statement};
+use oxt_ctx::parts::{child_mut, take_node};
 use oxt_fields::fate::{Fate, fate_of};
 use oxt_fields::rules::FieldRules;
 use oxt_grammar::field::Field;
 use oxt_tree::ids::{NodeId, OutOfMemory};
 use oxt_tree::tree::{Node, Part};
 use std::alloc::Global;
+use std::vec;
 
 /// What a class is, and what has been taken out of its elements.
 #[derive(Drop)]
@@ -90,6 +91,7 @@ fn fate_by_plan(element: &Node, moving: &Moving, ctx: &TraverseCtx) -> Fate {
     let rules = FieldRules {
         moves: true,
         drops_empty: moving.drops_empty,
+        legacy: false,
         plan: &ctx.plan,
     };
     fate_of(rules, moving.hoists_private, element)
@@ -152,7 +154,8 @@ fn place_put(
         (length (frames ctx.new.declarations) ≡ length (frames ctx.old.declarations)) }
 {
     if field.flag(Field::Static) {
-        *field = static_block(moving.alloc, put, moving.class, ctx)?;
+        let statements = vec![in moving.alloc; Part::Node(put)]?;
+        *field = static_block(statements, moving.class, ctx)?;
         Ok(())
     } else {
         moving.puts.push(Part::Node(put))?;

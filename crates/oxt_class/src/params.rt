@@ -4,12 +4,11 @@ ghost use Rattle.oxt_stores.specs.Frame.{frames};
 ghost use Rattle.oxt_ctx.specs.Made.{but_names_of};
 
 use crate::elements::{is_constructor, parameters_mut, put_into};
-use crate::parts::put_field;
 use oxt_ctx::context::TraverseCtx;
-use oxt_ctx::nodes::{assignment, make, member, property_name, statement};
+use oxt_ctx::nodes::{assignment, member, property_name, statement, this_expression};
+use oxt_ctx::parts::put_field;
 use oxt_fields::class::{is_property, parameters_of};
 use oxt_grammar::field::Field;
-use oxt_grammar::kind::Kind;
 use oxt_names::flags::ReferenceFlags;
 use oxt_tree::ids::OutOfMemory;
 use oxt_tree::name::Name;
@@ -99,7 +98,7 @@ fn parameter_put(pattern: &Node, ctx: &mut TraverseCtx) -> Result<Node, OutOfMem
 {
     let alloc = ctx.memory();
     let name = name_of(alloc, pattern)?;
-    let this = make(Kind::ThisExpression, Vec::new(alloc), &mut ctx.ids)?;
+    let this = this_expression(alloc, &mut ctx.ids)?;
     let property = property_name(alloc, &name, &mut ctx.ids)?;
     let target = member(alloc, this, property, &mut ctx.ids)?;
     let symbol = ctx.scoping.symbol_of(pattern.id);

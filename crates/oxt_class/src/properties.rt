@@ -7,7 +7,8 @@ use crate::elements::elements_mut;
 use crate::params::{name_of, property_pattern};
 use indexmap::IndexSet;
 use oxt_ctx::context::TraverseCtx;
-use oxt_ctx::nodes::{make, property_name};
+use oxt_ctx::functions::field;
+use oxt_ctx::nodes::property_name;
 use oxt_fields::class::{constructor_of, elements_of, parameters_of};
 use oxt_grammar::field::Field;
 use oxt_grammar::kind::Kind;
@@ -15,7 +16,7 @@ use oxt_tree::ids::{NodeIds, OutOfMemory};
 use oxt_tree::name::Name;
 use oxt_tree::tree::{Node, Part};
 use std::alloc::Global;
-use std::{mem, vec};
+use std::mem;
 
 /// Puts an empty field in front of the elements of the class for each parameter that is a property, unless
 /// an instance field or accessor has that name already.
@@ -133,19 +134,5 @@ fn is_instance(element: &Node) -> bool {
 /// `name;`.
 fn empty_field(alloc: Global, name: &Name, ids: &mut NodeIds) -> Result<Node, OutOfMemory> {
     let key = property_name(alloc, name, ids)?;
-    let parts = vec![in alloc;
-        Part::List(Vec::new(alloc)),
-        Part::Node(key),
-        Part::Flag(false),
-        Part::Flag(false),
-        Part::Flag(false),
-        Part::Flag(false),
-        Part::Flag(false),
-        Part::Flag(false),
-        Part::Flag(false),
-        Part::Nothing,
-        Part::Nothing,
-        Part::Nothing,
-    ]?;
-    make(Kind::PropertyDefinition, parts, ids)
+    field(alloc, key, false, None, ids)
 }

@@ -2,7 +2,7 @@
 use Rattle.std.specs.Prelude.{ℕ, Bool, false, not, ◌&&◌, nat_eq, if◌then◌else◌, Option, None, Some, is_some, codes}
 use Rattle.oxt_class_checks.specs.Nodes.{some_node}
 use Rattle.oxt_faults.specs.Reaches.{reach_of}
-use Rattle.oxt_faults.specs.Silent.{is_silent}
+use Rattle.oxt_faults.specs.Silent.{is_silent, silent_inside}
 use Rattle.oxt_faults.specs.declared.reach.Reach.{Reach}
 use Rattle.oxt_faults.specs.declared.reach.Reach.TheVariants as reach
 use Rattle.oxt_fields.specs.Classes.{is_super_call, statements_of}
@@ -53,24 +53,26 @@ first_call ds = first_among bare_calls ds tt
 abbrev pub other_call : ℕ → Kind → ℕ → Docs → Option ℕ
 other_call c k i ds = if is_super_call (some_node k ds) && not (nat_eq i c) then Some i else None
 
--- each call of another number that stands at the level, as words do that would mean something else elsewhere
-abbrev pub other_calls : ℕ → Sought Reach ℕ
-other_calls c =
+-- each call of another number that stands at the level, as words do that would mean something else elsewhere; the flag says
+-- whether decorators have their older meaning
+abbrev pub other_calls : Bool → ℕ → Sought Reach ℕ
+other_calls l c =
     record {
       at = λ r k i ds. if is_silent r k ds then None else other_call c k i ds;
-      inside = λ r k i ds. if is_silent r k ds then inside.Skipped else inside.ByField r;
+      inside = λ r k i ds. if is_silent r k ds then silent_inside l r k ds reach.Level else inside.ByField r;
       in_field = λ s k r. Some (reach_of s k r);
     }
 
-abbrev pub has_other : ℕ → Doc → Bool
-has_other c d = is_some (first_in (other_calls c) d reach.Level)
+abbrev pub has_other : Bool → ℕ → Doc → Bool
+has_other l c d = is_some (first_in (other_calls l c) d reach.Level)
 
 -- of a function: that call, and no other in its parameters and its body
-abbrev pub is_alone : Doc → Option ℕ → Bool
-is_alone f None = false
-is_alone f (Some c) =
-    not (has_other c (field_of (codes "params") f)) && not (has_other c (field_of (codes "body") f))
+abbrev pub is_alone : Bool → Doc → Option ℕ → Bool
+is_alone l f None = false
+is_alone l f (Some c) =
+    not (has_other l c (field_of (codes "params") f)) && not (has_other l c (field_of (codes "body") f))
 
--- A constructor calls `super` once, and the call is a statement of its body by itself.
-abbrev pub calls_once : Doc → Bool
-calls_once m = is_alone (field_of (codes "value") m) (first_call (statements_of m))
+-- A constructor calls `super` once, and the call is a statement of its body by itself; the flag says whether decorators are
+-- lowered.
+abbrev pub calls_once : Bool → Doc → Bool
+calls_once l m = is_alone l (field_of (codes "value") m) (first_call (statements_of m))

@@ -1,5 +1,5 @@
 -- What the elements of a class have to know of it.
-use Rattle.std.specs.Prelude.{Bool, false, not, ◌&&◌, codes}
+use Rattle.std.specs.Prelude.{Bool, false, not, ◌&&◌, ◌||◌, codes}
 use Rattle.std.specs.List.{list_any}
 use Rattle.oxt_class_checks.specs.Nodes.{some_node}
 use Rattle.oxt_class_checks.specs.declared.class.ClassFacts.{ClassFacts}
@@ -44,10 +44,16 @@ is_assigned_accessor (node k i b e ds) =
 abbrev pub is_any_assigned : Docs → Bool
 is_any_assigned es = list_any is_assigned_accessor (docs_list es)
 
--- the facts of a class with these elements; the flags say whether it is derived and whether private fields move too
-abbrev pub facts_of : Rules → Bool → Bool → Docs → ClassFacts
-facts_of r derived h es =
+-- a class
+abbrev pub is_class : Kind → Bool
+is_class k = same_kind k kind.ClassDeclaration || same_kind k kind.ClassExpression
+
+-- the facts of a class with these elements; the flags say whether it is a declaration, whether it is derived, and whether
+-- private fields move too
+abbrev pub facts_of : Rules → Bool → Bool → Bool → Docs → ClassFacts
+facts_of r declared derived h es =
     record {
+      is_declaration = declared;
       is_derived = derived;
       hoists = h;
       has_moving = is_any_moving r h es;
@@ -55,9 +61,10 @@ facts_of r derived h es =
       has_assigned = is_any_assigned es;
     }
 
-abbrev pub facts_by : Rules → Bool → Docs → ClassFacts
-facts_by r derived es = facts_of r derived (hoists_private es) es
+abbrev pub facts_by : Rules → Bool → Bool → Docs → ClassFacts
+facts_by r declared derived es = facts_of r declared derived (hoists_private es) es
 
 -- the facts of the class
 abbrev pub class_facts : Rules → Kind → Docs → ClassFacts
-class_facts r k ds = facts_by r (is_derived (some_node k ds)) (elements_of (some_node k ds))
+class_facts r k ds =
+    facts_by r (same_kind k kind.ClassDeclaration) (is_derived (some_node k ds)) (elements_of (some_node k ds))

@@ -6,7 +6,7 @@ ghost use Rattle.oxt_tree.specs.Fields.{field_of};
 ghost use Rattle.oxt_tree.specs.View.{doc_or_nil, docs_in, node_doc};
 
 use oxt_faults::reach::{Reach, reach_of};
-use oxt_faults::silent::is_silent;
+use oxt_faults::silent::{is_silent, silent_inside};
 use oxt_fields::class::statements_of;
 use oxt_grammar::field::Field;
 use oxt_grammar::holds::Row;
@@ -18,38 +18,38 @@ use oxt_tree::tree::{Node, Part};
 
 /// Whether the constructor calls `super` once in its parameters and its body, and the call is a statement of the body by
 /// itself. Calls are counted through arrows and through what stands around the elements of a class, but neither in
-/// erased code and types, nor in other functions, the values of fields and static blocks.
-pub fn calls_once(method: &Node) -> bool
-    ensures { result ≡ calls_once (node_doc method.now) }
+/// erased code and types, nor in other functions, the values of fields and static blocks. Under `legacy` the decorators of
+/// a field with `declare` are not erased.
+pub fn calls_once(legacy: bool, method: &Node) -> bool
+    ensures { result ≡ calls_once legacy (node_doc method.now) }
 {
     match first_call(statements_of(method)) {
-        Some(call) => is_alone(method, call),
+        Some(call) => is_alone(legacy, method, call),
         None => false,
     }
 }
 
 /// Whether no other call of `super` stands in the parameters and the body of the method.
-fn is_alone(method: &Node, call: NodeId) -> bool
-    ensures { result ≡ is_alone (field_of (codes "value") (node_doc method.now)) (Some call.0) }
+fn is_alone(legacy: bool, method: &Node, call: NodeId) -> bool
+    ensures { result ≡ is_alone legacy (field_of (codes "value") (node_doc method.now)) (Some call.0) }
 {
     match method.field(Field::Value) {
         Some(function) => {
-            !has_other(call, function.field(Field::Params))
-                && !has_other(call, function.field(Field::Body))
+            !has_other(legacy, call, function.field(Field::Params))
+                && !has_other(legacy, call, function.field(Field::Body))
         }
         None => true,
     }
 }
 
 /// Whether another call of `super` stands at the level of the part.
-fn has_other(call: NodeId, part: Option<&Part>) -> bool
-    ensures { result ≡ has_other call.0 (doc_or_nil part.entry) }
+fn has_other(legacy: bool, call: NodeId, part: Option<&Part>) -> bool
+    ensures { result ≡ has_other legacy call.0 (doc_or_nil part.entry) }
 {
+    let calls = OtherCalls { legacy, call };
     match part {
-        Some(Part::Node(node)) => first_in(&OtherCalls { call }, node, Reach::Level).is_some(),
-        Some(Part::List(parts)) => {
-            first_among(&OtherCalls { call }, parts.as_slice(), Reach::Level).is_some()
-        }
+        Some(Part::Node(node)) => first_in(&calls, node, Reach::Level).is_some(),
+        Some(Part::List(parts)) => first_among(&calls, parts.as_slice(), Reach::Level).is_some(),
         _ => false,
     }
 }
@@ -118,6 +118,8 @@ fn call_number(part: Option<&Part>) -> Option<NodeId>
 /// The search for the calls of `super` that stand at a level beside one.
 #[derive(Clone, Copy)]
 struct OtherCalls {
+    /// Whether decorators have TypeScript's older meaning.
+    legacy: bool,
     /// The number of that one.
     call: NodeId,
 }
@@ -131,13 +133,13 @@ impl Search for OtherCalls {
 
     ghost view = { number_of };
 
-    ghost sought = { λ search. other_calls search.call.0 };
+    ghost sought = { λ search. other_calls search.legacy search.call.0 };
 
     fn visit(&self, node: &Node, reach: Reach) -> Visit<NodeId, Reach> {
         if is_silent(reach, node) {
             Visit {
                 found: None,
-                inside: Inside::Skipped,
+                inside: silent_inside(self.legacy, reach, node, Reach::Level),
             }
         } else {
             Visit {

@@ -1,7 +1,7 @@
 //! What the elements of a class have to know of it.
 ghost use Rattle.std.specs.Prelude.{◌≡◌};
 ghost use Rattle.std.specs.List.{list_any};
-ghost use Rattle.oxt_class_checks.specs.Class.{class_facts, facts_of, has_decorators, is_any_assigned, is_any_decorated, is_any_moving, is_assigned_accessor, is_decorated};
+ghost use Rattle.oxt_class_checks.specs.Class.{class_facts, facts_of, has_decorators, is_class, is_any_assigned, is_any_decorated, is_any_moving, is_assigned_accessor, is_decorated};
 ghost use Rattle.oxt_fields.specs.Fates.{moves_to_constructor};
 ghost use Rattle.oxt_fields.specs.Rules.{rules_view};
 ghost use Rattle.oxt_tree.specs.Doc.{list};
@@ -19,6 +19,8 @@ use oxt_unbuilt::dropped::is_dropped;
 /// What the elements of a class have to know of it.
 #[derive(Clone, Copy, Debug)]
 pub struct ClassFacts {
+    /// It is a declaration.
+    pub is_declaration: bool,
     /// It extends another.
     pub is_derived: bool,
     /// Its private instance fields with values move too.
@@ -31,19 +33,40 @@ pub struct ClassFacts {
     pub has_assigned: bool,
 }
 
+/// Whether nodes of the kind are classes.
+pub fn is_class(kind: Kind) -> bool
+    ensures { result ≡ is_class kind }
+{
+    kind.is(Kind::ClassDeclaration) || kind.is(Kind::ClassExpression)
+}
+
 /// The facts of the class.
 pub fn class_facts(rules: FieldRules, class: &Node) -> ClassFacts
     ensures { result ≡ class_facts (rules_view rules.entry) class.now.kind (docs_in class.now.parts.items) }
 {
+    let is_declaration = class.kind.is(Kind::ClassDeclaration);
     let elements = elements_of(class);
-    facts_of(rules, is_derived(class), hoists_private(elements), elements)
+    facts_of(
+        rules,
+        is_declaration,
+        is_derived(class),
+        hoists_private(elements),
+        elements,
+    )
 }
 
 /// The facts of a class with these elements.
-fn facts_of(rules: FieldRules, is_derived: bool, hoists: bool, elements: &[Part]) -> ClassFacts
-    ensures { result ≡ facts_of (rules_view rules.entry) is_derived hoists (docs_in elements.now) }
+fn facts_of(
+    rules: FieldRules,
+    is_declaration: bool,
+    is_derived: bool,
+    hoists: bool,
+    elements: &[Part],
+) -> ClassFacts
+    ensures { result ≡ facts_of (rules_view rules.entry) is_declaration is_derived hoists (docs_in elements.now) }
 {
     ClassFacts {
+        is_declaration,
         is_derived,
         hoists,
         has_moving: is_any_moving(rules, hoists, elements),

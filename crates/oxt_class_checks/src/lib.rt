@@ -4,5 +4,8 @@
 
 mod calls;
 mod class;
+mod keys;
 pub mod misplaced;
+mod refused;
 mod rules;
+mod storages;

@@ -2,22 +2,26 @@
 //!
 //! One search goes through all classes that are not erased. It hands down what the elements of a class have to know of
 //! it, from the class to its body, and from there to the elements.
-ghost use Rattle.std.specs.Prelude.{◌≡◌, option_map};
-ghost use Rattle.oxt_class_checks.specs.Misplaced.{ElementFault, around_inside, element_view, fault_in, is_class, misplaced_element, sought};
+ghost use Rattle.std.specs.Prelude.{◌≡◌, IfOk, option_map};
+ghost use Rattle.oxt_class_checks.specs.Misplaced.{ElementFault, around_inside, element_view, fault_in, misplaced_beside, misplaced_element, sought};
 ghost use Rattle.oxt_fields.specs.Rules.{rules_view};
+ghost use Rattle.oxt_options.specs.Facts.{is_in};
 ghost use Rattle.oxt_tree.specs.View.{docs_in, node_doc};
 
-use crate::class::{ClassFacts, class_facts};
+use crate::class::{ClassFacts, class_facts, is_class};
+use crate::refused::refused_accessors;
 use crate::rules::fault_at;
 use oxt_fields::rules::FieldRules;
 use oxt_grammar::field::Field;
 use oxt_grammar::holds::Row;
 use oxt_grammar::kind::Kind;
+use oxt_modules::nodes::NodeList;
 use oxt_search::first::first_in;
 use oxt_search::search::{Inside, Search, Visit};
-use oxt_tree::ids::NodeId;
+use oxt_tree::ids::{NodeId, OutOfMemory};
 use oxt_tree::tree::Node;
-use oxt_unbuilt::dropped::is_dropped;
+use oxt_unbuilt::dropped::{inside_dropped, is_dropped};
+use std::alloc::Global;
 
 /// What is wrong with the place of an element of a class.
 #[derive(Clone, Copy, Debug, PartialEq, Eq)]
@@ -27,8 +31,11 @@ pub enum ClassFault {
     Super,
     /// It is a field whose key is computed, in a class that leaves no place where that could be done.
     Key,
-    /// It is a field with decorators that does not stay as it is, or one that moves though an `accessor` has a value.
+    /// It is a field with decorators that does not stay as it is, or one that moves though an `accessor` has a value. Where
+    /// decorators are lowered: a field with decorators that goes into a static block, or whose key is computed apart from it.
     Field,
+    /// It is an accessor, or a setter, whose private name could not be told from others once accessors are lowered.
+    Accessor,
 }
 
 /// An element of a class that stands where it may not.
@@ -42,10 +49,28 @@ pub struct MisplacedElement {
 
 /// The first element outside erased code that stands where it may not in its class, where a node comes before those in
 /// it. Of several faults of one element it is the first in their order.
-pub fn first_misplaced_element(program: &Node, rules: FieldRules) -> Option<MisplacedElement>
-    ensures { option_map element_view result ≡ misplaced_element (rules_view rules.entry) (node_doc program.now) }
+///
+/// # Errors
+///
+/// Fails only where memory runs out.
+pub fn first_misplaced_element(
+    alloc: Global,
+    program: &Node,
+    rules: FieldRules,
+) -> Result<Option<MisplacedElement>, OutOfMemory>
+    ensures { IfOk result (λ found. option_map element_view found
+        ≡ misplaced_element (rules_view rules.entry) (node_doc program.now)) }
 {
-    first_in(&MisplacedElements { rules }, program, None)
+    let refused = refused_accessors(alloc, program, rules)?;
+    Ok(first_beside(program, rules, &refused))
+}
+
+/// The first of them where these accessors are refused.
+fn first_beside(program: &Node, rules: FieldRules, refused: &NodeList) -> Option<MisplacedElement>
+    ensures { option_map element_view result
+        ≡ misplaced_beside refused.now (rules_view rules.entry) (node_doc program.now) }
+{
+    first_in(&MisplacedElements { rules, refused }, program, None)
 }
 
 /// The search for such elements.
@@ -53,6 +78,8 @@ pub fn first_misplaced_element(program: &Node, rules: FieldRules) -> Option<Misp
 struct MisplacedElements<'a> {
     /// The rules by which fields are lowered.
     rules: FieldRules<'a>,
+    /// The accessors and setters that are refused.
+    refused: &'a NodeList,
 }
 
 impl<'a> Search for MisplacedElements<'a> {
@@ -64,7 +91,7 @@ impl<'a> Search for MisplacedElements<'a> {
 
     ghost view = { element_view };
 
-    ghost sought = { λ search. sought (rules_view search.rules) };
+    ghost sought = { λ search. sought (rules_view search.rules) (is_in search.refused.now) };
 
     fn visit(
         &self,
@@ -74,11 +101,11 @@ impl<'a> Search for MisplacedElements<'a> {
         if is_dropped(node) {
             Visit {
                 found: None,
-                inside: Inside::Skipped,
+                inside: inside_dropped(self.rules.legacy, node, None),
             }
         } else {
             Visit {
-                found: fault_in(self.rules, class, node),
+                found: fault_in(self.rules, self.refused, class, node),
                 inside: Inside::ByField(around_inside(self.rules, class, node)),
             }
         }
@@ -98,12 +125,17 @@ impl<'a> Search for MisplacedElements<'a> {
     }
 }
 
-/// What is wrong with the place of the node in that class, with its number.
-fn fault_in(rules: FieldRules, class: Option<ClassFacts>, node: &Node) -> Option<MisplacedElement>
-    ensures { option_map element_view result
-        ≡ fault_in (rules_view rules.entry) class node.now.kind node.now.id.0 (docs_in node.now.parts.items) }
+/// What is wrong with the place of the node in that class, with its number, where these accessors are refused.
+fn fault_in(
+    rules: FieldRules,
+    refused: &NodeList,
+    class: Option<ClassFacts>,
+    node: &Node,
+) -> Option<MisplacedElement>
+    ensures { option_map element_view result ≡ fault_in (rules_view rules.entry) (is_in refused.now) class
+        node.now.kind node.now.id.0 (docs_in node.now.parts.items) }
 {
-    let fault = fault_at(rules, class?, node)?;
+    let fault = fault_at(rules, refused.has(node.id), class?, node)?;
     Some(MisplacedElement {
         fault,
         node: node.id,
@@ -122,11 +154,4 @@ fn around_inside(rules: FieldRules, class: Option<ClassFacts>, node: &Node) -> O
     } else {
         None
     }
-}
-
-/// Whether nodes of the kind are classes.
-fn is_class(kind: Kind) -> bool
-    ensures { result ≡ is_class kind }
-{
-    kind.is(Kind::ClassDeclaration) || kind.is(Kind::ClassExpression)
 }

@@ -1,1 +1,3 @@
 pub mod Around
+pub mod Changed
+pub mod Lent

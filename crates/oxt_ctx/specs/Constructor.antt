@@ -1,47 +1,34 @@
 -- The constructor that a class gets which has none.
-use Rattle.std.specs.Prelude.{ℕ, ◌+◌, List, [], ◌∷◌, length, Bool, true, false, Option, None, Some, codes}
+use Rattle.std.specs.Prelude.{ℕ, ◌+◌, List, ◌∷◌, length, Bool, true, false, Some, codes}
 use Rattle.oxt_grammar.specs.declared.kind.Kind.TheVariants as kind
-use Rattle.oxt_names.specs.declared.flags.ReferenceFlags.{ReferenceFlags}
-use Rattle.oxt_names.specs.declared.flags.SymbolFlags.{SymbolFlags}
 use Rattle.oxt_names.specs.declared.flags.ScopeFlags.{ScopeFlags}
 use Rattle.oxt_names.specs.declared.ids.ScopeId.{ScopeId}
 use Rattle.oxt_names.specs.declared.ids.SymbolId.{SymbolId}
-use Rattle.oxt_scoping.specs.Scoped.{new_scope, with_opened_scope}
 use Rattle.oxt_stores.specs.Frame.{binding}
-use Rattle.oxt_tree.specs.Doc.{Doc, nil, flag, text, list, Docs, no_docs, doc, docs_of}
+use Rattle.oxt_tree.specs.Doc.{Doc, nil, list, no_docs, doc}
 use Rattle.oxt_ctx.specs.Context.{Context}
 use Rattle.oxt_ctx.specs.Made.{after, made_in, reference, with_ids, with_uid, with_use}
-use Rattle.oxt_ctx.specs.Nodes.{made, property_name, statement}
+use Rattle.oxt_ctx.specs.Functions.{function_body, function_of, in_function, method, reading, with_function}
+use Rattle.oxt_ctx.specs.Nodes.{call, made, property_name, statement}
 
 -- `super(...t);`
 abbrev pub super_call : ℕ → List ℕ → Doc
 super_call n t =
-    statement (n + 4) (made kind.CallExpression (n + 3) (doc (made kind.Super n no_docs) (doc nil
-    (doc (list (doc (made kind.SpreadElement (n + 2) (doc (reference (n + 1) t) no_docs)) no_docs))
-    (doc (flag false) (doc (flag false) no_docs))))))
+    statement (n + 4) (call (n + 3) (made kind.Super n no_docs) (doc (made kind.SpreadElement (n + 2) (doc (reference (n + 1) t) no_docs)) no_docs))
 
 -- the parameter `...t`
 abbrev pub rest_parameter : ℕ → List ℕ → Doc
 rest_parameter n t = made kind.FormalParameterRest (n + 1) (doc (binding n t) (doc nil no_docs))
 
--- the function of that number, without a name
-abbrev pub function_of : ℕ → Doc → Doc → Doc
-function_of f parameters body =
-    made kind.FunctionExpression f (doc nil (doc (flag false) (doc (flag false) (doc (flag false) (doc nil (doc nil
-    (doc parameters (doc nil (doc body no_docs)))))))))
-
 -- the function of that number with that last parameter and those statements
 abbrev pub function_with : ℕ → ℕ → Doc → List Doc → Doc
 function_with f n rest ss =
     function_of f (made kind.FormalParameters n (doc (list no_docs) (doc rest no_docs)))
-    (made kind.FunctionBody (n + 1) (doc (list no_docs) (doc (list (docs_of ss)) no_docs)))
+    (function_body (n + 1) ss)
 
 -- the constructor with that function
 abbrev pub constructor_method : ℕ → Doc → Doc
-constructor_method n f =
-    made kind.MethodDefinition (n + 1) (doc (list no_docs) (doc (property_name n (codes "constructor"))
-    (doc (flag false) (doc (text (codes "constructor")) (doc (flag false) (doc (flag false) (doc (flag false)
-    (doc nil (doc f no_docs)))))))))
+constructor_method n f = method (n + 1) (codes "constructor") false (property_name n (codes "constructor")) false f
 
 -- the function of that number that passes all that it is given on to `super` first
 abbrev pub passing_function : ℕ → ℕ → List ℕ → List Doc → Doc
@@ -57,22 +44,6 @@ made_constructor true n t ss = constructor_method (n + 11) (passing_function n (
 abbrev pub constructor_flags : ScopeFlags
 constructor_flags = record { 0 = 26 }
 
--- the context in which the next number opens the scope of a constructor
-abbrev pub with_constructor : ScopeId → Context → Context
-with_constructor x c =
-    record c {
-      scoping = with_opened_scope (record { 0 = c.ids.next }) (record { 0 = length c.scoping.scopes }) (new_scope (Some x) constructor_flags) c.scoping;
-      ids = after 1 c.ids;
-    }
-
--- a use that reads
-abbrev pub reading : ReferenceFlags
-reading = record { 0 = 1 }
-
--- a name that a function has
-abbrev pub in_function : SymbolFlags
-in_function = record { 0 = 1 }
-
 -- the context in which `super(...t);` was made, whose name means the symbol
 abbrev pub with_super_call : SymbolId → Context → Context
 with_super_call y c = with_ids 3 (with_use (Some y) reading (with_ids 1 c))
@@ -84,5 +55,5 @@ with_passing x c =
 
 -- The context once that constructor was made in a class of that scope.
 abbrev pub constructed : Bool → ScopeId → Context → Context
-constructed false x c = with_ids 4 (with_constructor x c)
-constructed true x c = with_ids 4 (with_passing (record { 0 = length c.scoping.scopes }) (with_constructor x c))
+constructed false x c = with_ids 4 (with_function constructor_flags x c)
+constructed true x c = with_ids 4 (with_passing (record { 0 = length c.scoping.scopes }) (with_function constructor_flags x c))

@@ -1,7 +1,12 @@
+pub mod Accessor
+pub mod Block
 pub mod Constructor
 pub mod Context
+pub mod Functions
+pub mod Helper
 pub mod Keys
 pub mod Made
 pub mod Meant
 pub mod Nodes
+pub mod Parts
 pub mod Text

@@ -3,19 +3,20 @@ ghost use Rattle.std.specs.Prelude.{◌≡◌, ◌+◌, ◌<◌, ◌∷◌, IfOk
 ghost use Rattle.oxt_stores.specs.Insertion.{docs};
 ghost use Rattle.oxt_tree.specs.Names.{name_bytes};
 ghost use Rattle.oxt_tree.specs.View.{node_doc, part_doc};
-ghost use Rattle.oxt_ctx.specs.Constructor.{constructed, constructor_method, constructor_flags, function_of, function_with, made_constructor, passing_function, rest_parameter, super_call, with_constructor, with_passing, with_super_call};
+ghost use Rattle.oxt_ctx.specs.Constructor.{constructed, constructor_method, constructor_flags, function_with, made_constructor, passing_function, rest_parameter, super_call, with_passing, with_super_call};
 ghost use Rattle.oxt_ctx.specs.Made.{made_in, with_ids};
 
 use crate::bound::BindingNodes;
 use crate::context::TraverseCtx;
-use crate::nodes::{binding, make, property_name, statement};
+use crate::functions::{function_body, function_of, method, open_function};
+use crate::nodes::{binding, call, make, property_name, statement};
 use bitflags::Flags;
 use oxt_grammar::kind::Kind;
 use oxt_grammar::word::Word;
 use oxt_names::flags::{ScopeFlags, SymbolFlags};
 use oxt_names::ids::ScopeId;
 use oxt_stores::bound::BoundIdentifier;
-use oxt_tree::ids::{NodeId, NodeIds, OutOfMemory, Span};
+use oxt_tree::ids::{NodeId, NodeIds, OutOfMemory};
 use oxt_tree::name::Name;
 use oxt_tree::tree::{Node, Part};
 use std::alloc::Global;
@@ -58,7 +59,7 @@ fn base_constructor(
     ensures ancestors { ctx.new.ancestors ≡ ctx.old.ancestors }
 {
     let alloc = ctx.memory();
-    let (function, _) = open_constructor(class_scope, ctx)?;
+    let (function, _) = open_function(constructor_flags(), class_scope, ctx)?;
     let value = function_with(alloc, function, Part::Nothing, statements, &mut ctx.ids)?;
     constructor_with(alloc, value, &mut ctx.ids)
 }
@@ -77,7 +78,7 @@ fn derived_constructor(
     ensures ancestors { ctx.new.ancestors ≡ ctx.old.ancestors }
 {
     let alloc = ctx.memory();
-    let (function, scope) = open_constructor(class_scope, ctx)?;
+    let (function, scope) = open_function(constructor_flags(), class_scope, ctx)?;
     let value = passing_function(function, scope, statements, ctx)?;
     constructor_with(alloc, value, &mut ctx.ids)
 }
@@ -99,26 +100,6 @@ fn passing_function(
     let alloc = ctx.memory();
     let rest = pass_on(scope, &mut statements, ctx)?;
     function_with(alloc, number, rest, statements, &mut ctx.ids)
-}
-
-/// Opens the scope of a constructor in that of a class.
-fn open_constructor(
-    class_scope: ScopeId,
-    ctx: &mut TraverseCtx,
-) -> Result<(NodeId, ScopeId), OutOfMemory>
-    requires { class_scope.0 < length ctx.old.scoping.scopes }
-    ensures function { IfOk result (λ opened. opened.0.0 ≡ ctx.old.ids.next) }
-    ensures scope { IfOk result (λ opened. opened.1.0 ≡ length ctx.old.scoping.scopes) }
-    ensures opened { OnOk result (ctx.new ≡ with_constructor class_scope ctx.old) }
-    ensures more { OnOk result (length ctx.new.scoping.scopes ≡ length ctx.old.scoping.scopes + 1) }
-    ensures declarations { ctx.new.declarations ≡ ctx.old.declarations }
-    ensures ancestors { ctx.new.ancestors ≡ ctx.old.ancestors }
-{
-    let function = ctx.ids.fresh()?;
-    let scope = ctx
-        .scoping
-        .open_scope(function, class_scope, constructor_flags())?;
-    Ok((function, scope))
 }
 
 /// A constructor, which is always strict.
@@ -174,14 +155,8 @@ fn super_call(
         vec![in alloc; Part::Node(passed)]?,
         &mut ctx.ids,
     )?;
-    let parts = vec![in alloc;
-        Part::Node(callee),
-        Part::Nothing,
-        Part::List(vec![in alloc; Part::Node(spread)]?),
-        Part::Flag(false),
-        Part::Flag(false),
-    ]?;
-    let call = make(Kind::CallExpression, parts, &mut ctx.ids)?;
+    let arguments = vec![in alloc; Part::Node(spread)]?;
+    let call = call(alloc, callee, arguments, &mut ctx.ids)?;
     statement(alloc, call, &mut ctx.ids)
 }
 
@@ -210,38 +185,8 @@ fn function_with(
 {
     let parts = vec![in alloc; Part::List(Vec::new(alloc)), rest]?;
     let parameters = make(Kind::FormalParameters, parts, ids)?;
-    let parts = vec![in alloc; Part::List(Vec::new(alloc)), Part::List(statements)]?;
-    let body = make(Kind::FunctionBody, parts, ids)?;
+    let body = function_body(alloc, statements, ids)?;
     function_of(alloc, number, parameters, body)
-}
-
-/// The function of that number, without a name.
-fn function_of(
-    alloc: Global,
-    number: NodeId,
-    parameters: Node,
-    body: Node,
-) -> Result<Node, OutOfMemory>
-    ensures { IfOk result (λ made. node_doc made
-        ≡ function_of number.0 (node_doc parameters) (node_doc body)) }
-{
-    let parts = vec![in alloc;
-        Part::Nothing,
-        Part::Flag(false),
-        Part::Flag(false),
-        Part::Flag(false),
-        Part::Nothing,
-        Part::Nothing,
-        Part::Node(parameters),
-        Part::Nothing,
-        Part::Node(body),
-    ]?;
-    Ok(Node {
-        kind: Kind::FunctionExpression,
-        id: number,
-        span: Span::NONE,
-        parts,
-    })
 }
 
 /// The constructor with that function.
@@ -252,16 +197,5 @@ fn constructor_with(alloc: Global, function: Node, ids: &mut NodeIds) -> Result<
 {
     let name = Name::new(alloc, "constructor")?;
     let key = property_name(alloc, &name, ids)?;
-    let parts = vec![in alloc;
-        Part::List(Vec::new(alloc)),
-        Part::Node(key),
-        Part::Flag(false),
-        Part::Word(Word::Constructor),
-        Part::Flag(false),
-        Part::Flag(false),
-        Part::Flag(false),
-        Part::Nothing,
-        Part::Node(function),
-    ]?;
-    make(Kind::MethodDefinition, parts, ids)
+    method(alloc, Word::Constructor, false, key, false, function, ids)
 }

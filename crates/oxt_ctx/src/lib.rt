@@ -2,13 +2,18 @@
 //! waits to be inserted, and the makers of names and of the nodes that are names.
 #![tactic(auto)]
 
+pub mod accessor;
 pub mod ancestor;
+pub mod block;
 pub mod bound;
 pub mod constructor;
 pub mod context;
+pub mod functions;
+pub mod helper;
 pub mod keys;
 mod makers;
 pub mod maybe;
 pub mod nodes;
+pub mod parts;
 pub mod text;
 pub mod uid;

@@ -1,11 +1,12 @@
 //! Nodes that are made, which have no place in a source text.
 ghost use Rattle.std.specs.Prelude.{◌≡◌, ◌+◌, ◌≤◌, IfOk, OnOk, option_map};
-ghost use Rattle.oxt_ctx.specs.Nodes.{access, alternative, assignment, computed, empty_object, made, member, negative, number_literal, property_name, returned, statement, string_literal, sum, variable};
+ghost use Rattle.oxt_ctx.specs.Nodes.{access, alternative, array, assignment, call, computed, default_export, empty_object, export_list, made, member, negative, null_literal, number_literal, of_kind, private_member, private_name, property_name, returned, row, statement, string_literal, sum, this_expression, unary, variable, void_zero};
 ghost use Rattle.oxt_ctx.specs.Made.{reference};
 ghost use Rattle.oxt_stores.specs.Frame.{binding, declarator};
 ghost use Rattle.oxt_grammar.specs.Words.{text_of};
+ghost use Rattle.oxt_grammar.specs.declared.kind.Kind.TheVariants as kind;
 ghost use Rattle.oxt_tree.specs.Names.{name_bytes};
-ghost use Rattle.oxt_tree.specs.View.{docs_in, node_doc};
+ghost use Rattle.oxt_tree.specs.View.{docs_in, node_doc, part_doc};
 
 use oxt_grammar::kind::Kind;
 use oxt_grammar::word::Word;
@@ -85,9 +86,106 @@ pub fn negative(alloc: Global, operand: Node, ids: &mut NodeIds) -> Result<Node,
     ensures used { OnOk result (ids.new.next ≡ ids.old.next + 1) }
     ensures risen { ids.old.next ≤ ids.new.next }
 {
-    let operator = Name::new(alloc, "-")?;
+    unary(alloc, "-", operand, ids)
+}
+
+/// The operator in front of the operand.
+fn unary(
+    alloc: Global,
+    operator: &str,
+    operand: Node,
+    ids: &mut NodeIds,
+) -> Result<Node, OutOfMemory>
+    ensures made { IfOk result (λ node. node_doc node
+        ≡ unary ids.old.next operator.now (node_doc operand)) }
+    ensures used { OnOk result (ids.new.next ≡ ids.old.next + 1) }
+    ensures risen { ids.old.next ≤ ids.new.next }
+{
+    let operator = Name::new(alloc, operator)?;
     let parts = vec![in alloc; Part::Text(operator), Part::Node(operand)]?;
     make(Kind::UnaryExpression, parts, ids)
+}
+
+/// `void 0`.
+pub fn void_zero(alloc: Global, ids: &mut NodeIds) -> Result<Node, OutOfMemory>
+    ensures made { IfOk result (λ node. node_doc node ≡ void_zero ids.old.next) }
+    ensures used { OnOk result (ids.new.next ≡ ids.old.next + 2) }
+    ensures risen { ids.old.next ≤ ids.new.next }
+{
+    let zero = number_literal(alloc, 0, ids)?;
+    unary(alloc, "void", zero, ids)
+}
+
+/// `null`.
+pub fn null_literal(alloc: Global, ids: &mut NodeIds) -> Result<Node, OutOfMemory>
+    ensures made { IfOk result (λ node. node_doc node ≡ null_literal ids.old.next) }
+    ensures used { OnOk result (ids.new.next ≡ ids.old.next + 1) }
+    ensures risen { ids.old.next ≤ ids.new.next }
+{
+    make(Kind::NullLiteral, Vec::new(alloc), ids)
+}
+
+/// `this`.
+pub fn this_expression(alloc: Global, ids: &mut NodeIds) -> Result<Node, OutOfMemory>
+    ensures made { IfOk result (λ node. node_doc node ≡ this_expression ids.old.next) }
+    ensures used { OnOk result (ids.new.next ≡ ids.old.next + 1) }
+    ensures risen { ids.old.next ≤ ids.new.next }
+{
+    make(Kind::ThisExpression, Vec::new(alloc), ids)
+}
+
+/// `[elements]`.
+pub fn array(alloc: Global, elements: Vec<Part>, ids: &mut NodeIds) -> Result<Node, OutOfMemory>
+    ensures made { IfOk result (λ node. node_doc node ≡ array ids.old.next (docs_in elements.items)) }
+    ensures used { OnOk result (ids.new.next ≡ ids.old.next + 1) }
+    ensures risen { ids.old.next ≤ ids.new.next }
+{
+    let parts = vec![in alloc; Part::List(elements)]?;
+    make(Kind::ArrayExpression, parts, ids)
+}
+
+/// These expressions in a row: one alone is itself.
+pub fn sequence(mut expressions: Vec<Part>, ids: &mut NodeIds) -> Result<Part, OutOfMemory>
+    ensures risen { ids.old.next ≤ ids.new.next }
+{
+    if expressions.len() > 1 {
+        Ok(Part::Node(row(expressions, ids)?))
+    } else {
+        Ok(expressions.pop().unwrap_or(Part::Nothing))
+    }
+}
+
+/// The sequence of these expressions.
+fn row(expressions: Vec<Part>, ids: &mut NodeIds) -> Result<Node, OutOfMemory>
+    ensures made { IfOk result (λ node. node_doc node ≡ row ids.old.next (docs_in expressions.items)) }
+    ensures used { OnOk result (ids.new.next ≡ ids.old.next + 1) }
+    ensures risen { ids.old.next ≤ ids.new.next }
+{
+    let alloc = *expressions.allocator();
+    let parts = vec![in alloc; Part::List(expressions)]?;
+    make(Kind::SequenceExpression, parts, ids)
+}
+
+/// `callee(arguments)`.
+pub fn call(
+    alloc: Global,
+    callee: Node,
+    arguments: Vec<Part>,
+    ids: &mut NodeIds,
+) -> Result<Node, OutOfMemory>
+    ensures made { IfOk result (λ node. node_doc node
+        ≡ call ids.old.next (node_doc callee) (docs_in arguments.items)) }
+    ensures used { OnOk result (ids.new.next ≡ ids.old.next + 1) }
+    ensures risen { ids.old.next ≤ ids.new.next }
+{
+    let parts = vec![in alloc;
+        Part::Node(callee),
+        Part::Nothing,
+        Part::List(arguments),
+        Part::Flag(false),
+        Part::Flag(false),
+    ]?;
+    make(Kind::CallExpression, parts, ids)
 }
 
 /// `object.property`.
@@ -118,6 +216,31 @@ pub fn computed(
     ensures risen { ids.old.next ≤ ids.new.next }
 {
     access(alloc, Kind::ComputedMemberExpression, object, key, ids)
+}
+
+/// A private name.
+pub fn private_name(alloc: Global, name: &Name, ids: &mut NodeIds) -> Result<Node, OutOfMemory>
+    ensures made { IfOk result (λ node. node_doc node ≡ private_name ids.old.next (name_bytes name.now)) }
+    ensures used { OnOk result (ids.new.next ≡ ids.old.next + 1) }
+    ensures risen { ids.old.next ≤ ids.new.next }
+{
+    let parts = vec![in alloc; Part::Text(name.share()?)]?;
+    make(Kind::PrivateIdentifier, parts, ids)
+}
+
+/// `object.#field`.
+pub fn private_member(
+    alloc: Global,
+    object: Node,
+    field: Node,
+    ids: &mut NodeIds,
+) -> Result<Node, OutOfMemory>
+    ensures made { IfOk result (λ node. node_doc node
+        ≡ private_member ids.old.next (node_doc object) (node_doc field)) }
+    ensures used { OnOk result (ids.new.next ≡ ids.old.next + 1) }
+    ensures risen { ids.old.next ≤ ids.new.next }
+{
+    access(alloc, Kind::PrivateFieldExpression, object, field, ids)
 }
 
 /// A member of an object that is not optional.
@@ -211,6 +334,53 @@ pub fn returned(alloc: Global, expression: Node, ids: &mut NodeIds) -> Result<No
 {
     let parts = vec![in alloc; Part::Node(expression)]?;
     make(Kind::ReturnStatement, parts, ids)
+}
+
+/// The class that is declared as an expression, with the same number.
+pub fn class_expression(mut class: Node) -> Node
+    ensures { node_doc result ≡ of_kind kind.ClassExpression (node_doc class) }
+{
+    class.kind = Kind::ClassExpression;
+    class
+}
+
+/// `export { local as name };`, without `as` where the names are the same.
+pub fn export_list(
+    alloc: Global,
+    local: Node,
+    name: &Name,
+    ids: &mut NodeIds,
+) -> Result<Node, OutOfMemory>
+    ensures made { IfOk result (λ node. node_doc node
+        ≡ export_list ids.old.next (node_doc local) (name_bytes name.now)) }
+    ensures used { OnOk result (ids.new.next ≡ ids.old.next + 3) }
+    ensures risen { ids.old.next ≤ ids.new.next }
+{
+    let exported = property_name(alloc, name, ids)?;
+    let parts = vec![in alloc;
+        Part::Word(Word::Value),
+        Part::Node(local),
+        Part::Node(exported),
+    ]?;
+    let specifier = make(Kind::ExportSpecifier, parts, ids)?;
+    let specifiers = vec![in alloc; Part::Node(specifier)]?;
+    let parts = vec![in alloc; Part::Word(Word::Value), Part::List(specifiers)]?;
+    make(Kind::ExportNamedDeclaration, parts, ids)
+}
+
+/// `export default e;`.
+pub fn default_export(
+    alloc: Global,
+    expression: Node,
+    ids: &mut NodeIds,
+) -> Result<Node, OutOfMemory>
+    ensures made { IfOk result (λ node. node_doc node
+        ≡ default_export ids.old.next (node_doc expression)) }
+    ensures used { OnOk result (ids.new.next ≡ ids.old.next + 1) }
+    ensures risen { ids.old.next ≤ ids.new.next }
+{
+    let parts = vec![in alloc; Part::Node(expression)]?;
+    make(Kind::ExportDefaultDeclaration, parts, ids)
 }
 
 /// `keyword name = value;`, or without a value `keyword name;`.

@@ -1,3 +1,4 @@
+pub mod Alone
 pub mod Blockless
 pub mod Clashes
 pub mod Lates

@@ -1,5 +1,5 @@
 -- The members of the enums of a document, in the order of the text, outside what is erased.
-use Rattle.std.specs.Prelude.{ℕ, List, if◌then◌else◌, Option, None, Some, map, slice_get}
+use Rattle.std.specs.Prelude.{ℕ, List, Bool, if◌then◌else◌, Option, None, Some, map, slice_get}
 use Rattle.oxt_enum_checks.specs.Around.{Enum, around_view, enum_in, within}
 use Rattle.oxt_enum_checks.specs.Misused.{is_member_symbol}
 use Rattle.oxt_enum_checks.specs.declared.members.EnumMember.{EnumMember}
@@ -14,7 +14,7 @@ use Rattle.oxt_grammar.specs.declared.kind.Kind.{Kind}
 use Rattle.oxt_grammar.specs.declared.kind.Kind.TheVariants as kind
 use Rattle.oxt_tree.specs.Doc.{Doc}
 use Rattle.oxt_tree.specs.Names.{name_bytes}
-use Rattle.oxt_unbuilt.specs.Dropped.{is_dropped_by}
+use Rattle.oxt_unbuilt.specs.Dropped.{inside_dropped_by, is_dropped_by}
 
 -- a member: its enum, its number and its name
 pub record Member : Type 0 where
@@ -56,15 +56,16 @@ member_in s n (Some a) = named_member a n (name_at s n)
 abbrev pub member_of : Scoped → Kind → ℕ → Option SymbolId → Option Member
 member_of s k n a = if same_kind k kind.TSEnumMember then member_in s n (enum_in s.symbols a) else None
 
--- outside what is erased, each member; the state is the symbol of the enum around
-abbrev pub sought : Scoped → Sought (Option SymbolId) Member
-sought s =
+-- outside what is erased, each member; the state is the symbol of the enum around, and the flag says whether decorators
+-- have their older meaning
+abbrev pub sought : Bool → Scoped → Sought (Option SymbolId) Member
+sought l s =
     record {
       at = λ a k i ds. if is_dropped_by k ds then None else member_of s k i a;
-      inside = λ a k i ds. if is_dropped_by k ds then inside.Skipped else inside.Alike (within s k ds a);
+      inside = λ a k i ds. if is_dropped_by k ds then inside_dropped_by l k ds a else inside.Alike (within s k ds a);
       in_field = λ a k r. Some a;
     }
 
 -- the members of a whole tree
-abbrev pub members_of : Scoped → Doc → List Member
-members_of s d = all_in (sought s) d None
+abbrev pub members_of : Bool → Scoped → Doc → List Member
+members_of l s d = all_in (sought l s) d None

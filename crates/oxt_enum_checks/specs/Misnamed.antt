@@ -26,6 +26,7 @@ lesser None b = b
 lesser (Some m) None = Some m
 lesser (Some m) (Some n) = Some (min m n)
 
--- the lesser number of the first such member and the first bare name that is misused
-abbrev pub misnamed : Scoped → Doc → Option ℕ
-misnamed s d = lesser (first_repeated [] (members_of s d)) (misused s d)
+-- the lesser number of the first such member and the first bare name that is misused; the flag says whether decorators
+-- have their older meaning
+abbrev pub misnamed : Bool → Scoped → Doc → Option ℕ
+misnamed l s d = lesser (first_repeated [] (members_of l s d)) (misused l s d)

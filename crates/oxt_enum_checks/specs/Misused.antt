@@ -14,7 +14,7 @@ use Rattle.oxt_grammar.specs.declared.kind.Kind.{Kind}
 use Rattle.oxt_grammar.specs.declared.kind.Kind.TheVariants as kind
 use Rattle.oxt_tree.specs.Doc.{Doc}
 use Rattle.oxt_tree.specs.declared.ids.NodeId.{NodeId}
-use Rattle.oxt_unbuilt.specs.Dropped.{is_dropped_by}
+use Rattle.oxt_unbuilt.specs.Dropped.{inside_dropped_by, is_dropped_by}
 
 -- ---- symbols
 
@@ -77,15 +77,16 @@ misused_at s b i = if is_misused s i b then Some i else None
 abbrev pub number_of : NodeId → ℕ
 number_of i = i.0
 
--- outside what is erased, each node that is such a name; the state says whether a name there names an element
-abbrev pub sought : Scoped → Sought Bool ℕ
-sought s =
+-- outside what is erased, each node that is such a name; the state says whether a name there names an element, and the
+-- flag whether decorators have their older meaning
+abbrev pub sought : Bool → Scoped → Sought Bool ℕ
+sought l s =
     record {
       at = λ b k i ds. if is_dropped_by k ds then None else misused_at s b i;
-      inside = λ b k i ds. if is_dropped_by k ds then inside.Skipped else inside.Alike (names_element k);
+      inside = λ b k i ds. if is_dropped_by k ds then inside_dropped_by l k ds false else inside.Alike (names_element k);
       in_field = λ b k r. Some b;
     }
 
 -- the number of the first such name of a whole tree: a node stands before those in it
-abbrev pub misused : Scoped → Doc → Option ℕ
-misused s d = first_in (sought s) d false
+abbrev pub misused : Bool → Scoped → Doc → Option ℕ
+misused l s d = first_in (sought l s) d false

@@ -1,5 +1,6 @@
 -- Bare names of members in initializers, where the name of the enum means something that the initializer declares.
 use Rattle.std.specs.Prelude.{ℕ, List, [], ◌∷◌, ◌++◌, map, fold, Bool, ◌&&◌, nat_lt, if◌then◌else◌, is_some, Option, None, Some, codes}
+use Rattle.std.specs.Str.{bytes_eq}
 use Rattle.oxt_declares.specs.Declarations.{Declared}
 use Rattle.oxt_declares.specs.Declares.{each_found}
 use Rattle.oxt_declares.specs.RoleOf.{role_of}
@@ -27,7 +28,7 @@ use Rattle.oxt_grammar.specs.declared.kind.Kind.TheVariants as kind
 use Rattle.oxt_tree.specs.Doc.{Doc, nil, flag, number, text, list, node, Docs, no_docs, doc}
 use Rattle.oxt_tree.specs.Fields.{named}
 use Rattle.oxt_tree.specs.Names.{name_bytes}
-use Rattle.oxt_unbuilt.specs.Dropped.{is_dropped_by}
+use Rattle.oxt_unbuilt.specs.Dropped.{is_declared_field, is_dropped_by}
 
 -- the number of a bare name of a member, and the name of the enum
 pub record Shadow : Type 0 where
@@ -71,51 +72,69 @@ abbrev pub read_shadows : Option Way → (Way → List Level → List Shadow) �
 read_shadows None c ls = []
 read_shadows (Some w) c ls = c w ls
 
--- such names in a document, outside what is erased
+-- in an erased node: the decorators of a field that is only declared, where they are not erased with it
+abbrev pub left_shadows : Bool → Reading → Fields → List Level → List Shadow
+left_shadows b r c ls = if b then c (record r { pass = pass.Beyond }) ls else []
+
+-- such names in a document, outside what is erased; the flag says whether decorators have their older meaning
 abbrev mutual
-  pub shadows : Scoped → Enum → Doc → Way → List Level → List Shadow
-  shadows s a nil w ls = []
-  shadows s a (flag b) w ls = []
-  shadows s a (number n) w ls = []
-  shadows s a (text t) w ls = []
-  shadows s a (list ds) w ls = each_shadows s a ds w ls
-  shadows s a (node k i b e ds) w ls =
-      if is_dropped_by k ds then []
-      else step_shadows (step_of (role_of k) w) s a (read (role_of k) w k ds) k i ds ls (each_found ds) (field_shadows s a ds (row_of k))
+  pub shadows : Bool → Scoped → Enum → Doc → Way → List Level → List Shadow
+  shadows l s a nil w ls = []
+  shadows l s a (flag b) w ls = []
+  shadows l s a (number n) w ls = []
+  shadows l s a (text t) w ls = []
+  shadows l s a (list ds) w ls = each_shadows l s a ds w ls
+  shadows l s a (node k i b e ds) w ls =
+      if is_dropped_by k ds
+      then left_shadows (l && is_declared_field k ds) (read (role_of k) w k ds) (field_shadows l s a ds (row_of k)) ls
+      else step_shadows (step_of (role_of k) w) s a (read (role_of k) w k ds) k i ds ls (each_found ds) (field_shadows l s a ds (row_of k))
 
-  pub each_shadows : Scoped → Enum → Docs → Way → List Level → List Shadow
-  each_shadows s a no_docs w ls = []
-  each_shadows s a (doc d ds) w ls = shadows s a d w ls ++ each_shadows s a ds w ls
+  pub each_shadows : Bool → Scoped → Enum → Docs → Way → List Level → List Shadow
+  each_shadows l s a no_docs w ls = []
+  each_shadows l s a (doc d ds) w ls = shadows l s a d w ls ++ each_shadows l s a ds w ls
 
-  pub field_shadows : Scoped → Enum → Docs → List Field → Reading → List Level → List Shadow
-  field_shadows s a no_docs fs r ls = []
-  field_shadows s a (doc d ds) [] r ls = []
-  field_shadows s a (doc d ds) (f ∷ fs) r ls = read_shadows (way_of r f.name) (shadows s a d) ls ++ field_shadows s a ds fs r ls
+  pub field_shadows : Bool → Scoped → Enum → Docs → List Field → Reading → List Level → List Shadow
+  field_shadows l s a no_docs fs r ls = []
+  field_shadows l s a (doc d ds) [] r ls = []
+  field_shadows l s a (doc d ds) (f ∷ fs) r ls = read_shadows (way_of r f.name) (shadows l s a d) ls ++ field_shadows l s a ds fs r ls
 
 -- ---- in all initializers
 
 -- in an initializer in that enum, if it is one
-abbrev pub initializer_shadows : Scoped → Doc → Option Enum → List Shadow
-initializer_shadows s d None = []
-initializer_shadows s d (Some a) = shadows s a d way.Whole []
+abbrev pub initializer_shadows : Bool → Scoped → Doc → Option Enum → List Shadow
+initializer_shadows l s d None = []
+initializer_shadows l s d (Some a) = shadows l s a d way.Whole []
 
 -- in the initializer of a node, if it is a member of the enum of that symbol
-abbrev pub member_shadows : Scoped → Kind → Docs → Option SymbolId → List Shadow
-member_shadows s k ds a = if same_kind k kind.TSEnumMember then initializer_shadows s (named (codes "initializer") k ds) (enum_in s.symbols a) else []
+abbrev pub member_shadows : Bool → Scoped → Kind → Docs → Option SymbolId → List Shadow
+member_shadows l s k ds a = if same_kind k kind.TSEnumMember then initializer_shadows l s (named (codes "initializer") k ds) (enum_in s.symbols a) else []
+
+-- of an erased node what its decorators have, if it is a field that is only declared and they are not erased with it
+abbrev pub left_all : Bool → Kind → Docs → List Shadow → List Shadow
+left_all l k ds ns = if l && is_declared_field k ds then ns else []
 
 -- such names in the initializers in a document that stands in the enum of that symbol, outside what is erased
 abbrev mutual
-  pub all_shadows : Scoped → Doc → Option SymbolId → List Shadow
-  all_shadows s nil a = []
-  all_shadows s (flag b) a = []
-  all_shadows s (number n) a = []
-  all_shadows s (text t) a = []
-  all_shadows s (list ds) a = all_among s ds a
-  all_shadows s (node k i b e ds) a = if is_dropped_by k ds then [] else member_shadows s k ds a ++ all_among s ds (within s k ds a)
+  pub all_shadows : Bool → Scoped → Doc → Option SymbolId → List Shadow
+  all_shadows l s nil a = []
+  all_shadows l s (flag b) a = []
+  all_shadows l s (number n) a = []
+  all_shadows l s (text t) a = []
+  all_shadows l s (list ds) a = all_among l s ds a
+  all_shadows l s (node k i b e ds) a =
+      if is_dropped_by k ds then left_all l k ds (all_at l s ds (row_of k) (codes "decorators") a)
+      else member_shadows l s k ds a ++ all_among l s ds (within s k ds a)
 
-  pub all_among : Scoped → Docs → Option SymbolId → List Shadow
-  all_among s no_docs a = []
-  all_among s (doc d ds) a = all_shadows s d a ++ all_among s ds a
+  pub all_among : Bool → Scoped → Docs → Option SymbolId → List Shadow
+  all_among l s no_docs a = []
+  all_among l s (doc d ds) a = all_shadows l s d a ++ all_among l s ds a
+
+  -- the same of the field of that name alone
+  pub all_at : Bool → Scoped → Docs → List Field → List ℕ → Option SymbolId → List Shadow
+  all_at l s no_docs fs name a = []
+  all_at l s (doc d ds) [] name a = []
+  all_at l s (doc d ds) (f ∷ fs) name a =
+      if bytes_eq f.name name then all_shadows l s d a else all_at l s ds fs name a
 
 -- the one of the lesser number, the first of two with one number
 abbrev pub lesser : Option Shadow → Shadow → Option Shadow
@@ -127,5 +146,5 @@ abbrev pub least : List Shadow → Option Shadow
 least ns = fold lesser None ns
 
 -- the one of the least number of a whole tree
-abbrev pub shadowed : Scoped → Doc → Option Shadow
-shadowed s d = least (all_shadows s d None)
+abbrev pub shadowed : Bool → Scoped → Doc → Option Shadow
+shadowed l s d = least (all_shadows l s d None)

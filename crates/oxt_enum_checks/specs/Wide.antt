@@ -14,7 +14,7 @@ use Rattle.oxt_grammar.specs.declared.kind.Kind.{Kind}
 use Rattle.oxt_grammar.specs.declared.kind.Kind.TheVariants as kind
 use Rattle.oxt_tree.specs.Doc.{Doc, node, Docs, no_docs, doc}
 use Rattle.oxt_tree.specs.Fields.{elements, is_nil, named}
-use Rattle.oxt_unbuilt.specs.Dropped.{is_dropped_by}
+use Rattle.oxt_unbuilt.specs.Dropped.{inside_dropped_by, is_dropped_by}
 
 -- ---- constants
 
@@ -76,15 +76,16 @@ abbrev pub wide_at : Option WideMember → ℕ → Option WideMember
 wide_at None i = None
 wide_at (Some w) i = if w.node.0 == i then Some w else None
 
--- outside what is erased, the first such member of each body; the state is that of the body around
-abbrev pub sought : Scoped → Sought (Option WideMember) WideMember
-sought s =
+-- outside what is erased, the first such member of each body; the state is that of the body around, and the flag says
+-- whether decorators have their older meaning
+abbrev pub sought : Bool → Scoped → Sought (Option WideMember) WideMember
+sought l s =
     record {
       at = λ w k i ds. if is_dropped_by k ds then None else wide_at w i;
-      inside = λ w k i ds. if is_dropped_by k ds then inside.Skipped else inside.Alike (wide_in s k ds);
+      inside = λ w k i ds. if is_dropped_by k ds then inside_dropped_by l k ds None else inside.Alike (wide_in s k ds);
       in_field = λ w k r. Some w;
     }
 
 -- the first such member of a whole tree: a node stands before those in it
-abbrev pub wide : Scoped → Doc → Option WideMember
-wide s d = first_in (sought s) d None
+abbrev pub wide : Bool → Scoped → Doc → Option WideMember
+wide l s d = first_in (sought l s) d None

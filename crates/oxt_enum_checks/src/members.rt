@@ -15,7 +15,7 @@ use oxt_search::search::{Inside, Search, Visit};
 use oxt_tree::ids::{NodeId, OutOfMemory};
 use oxt_tree::name::Name;
 use oxt_tree::tree::Node;
-use oxt_unbuilt::dropped::is_dropped;
+use oxt_unbuilt::dropped::{inside_dropped, is_dropped};
 use std::alloc::Global;
 
 /// A member of an enum.
@@ -29,7 +29,8 @@ pub struct EnumMember<'a> {
     pub name: &'a Name,
 }
 
-/// The members of the enums of the program, in the order of the text, outside what is erased.
+/// The members of the enums of the program, in the order of the text, outside what is erased. Under `legacy` the
+/// decorators of a field with `declare` are not erased.
 ///
 /// # Errors
 ///
@@ -38,13 +39,14 @@ pub fn members_of<'a>(
     alloc: Global,
     program: &Node,
     scoping: &'a Scoping,
+    legacy: bool,
 ) -> Result<Vec<EnumMember<'a>>, OutOfMemory>
-    ensures { IfOk result (λ v. member_views v.items ≡ members_of scoping.now (node_doc program.now)) }
+    ensures { IfOk result (λ v. member_views v.items ≡ members_of legacy scoping.now (node_doc program.now)) }
 {
     if !has_members(scoping) {
         return Ok(Vec::new(alloc));
     }
-    all_in(alloc, &Members { scoping }, program, None)
+    all_in(alloc, &Members { scoping, legacy }, program, None)
 }
 
 /// The search for such members. What is handed down is the symbol of the enum around.
@@ -52,6 +54,8 @@ pub fn members_of<'a>(
 struct Members<'a> {
     /// What the names mean.
     scoping: &'a Scoping,
+    /// Whether decorators have TypeScript's older meaning.
+    legacy: bool,
 }
 
 impl<'a> Search for Members<'a> {
@@ -63,7 +67,7 @@ impl<'a> Search for Members<'a> {
 
     ghost view = { member_view };
 
-    ghost sought = { λ members. sought members.scoping.now };
+    ghost sought = { λ members. sought members.legacy members.scoping.now };
 
     fn visit(
         &self,
@@ -73,7 +77,7 @@ impl<'a> Search for Members<'a> {
         if is_dropped(node) {
             Visit {
                 found: None,
-                inside: Inside::Skipped,
+                inside: inside_dropped(self.legacy, node, around),
             }
         } else {
             Visit {

@@ -13,7 +13,8 @@ use oxt_tree::tree::Node;
 use std::alloc::Global;
 
 /// The least number of a node, outside what is erased, that is a member with the name of its enum or of a member
-/// that stands earlier in the enum, or a bare name that means a member and is written or names an element of JSX.
+/// that stands earlier in the enum, or a bare name that means a member and is written or names an element of JSX. Under
+/// `legacy` the decorators of a field with `declare` are not erased.
 ///
 /// # Errors
 ///
@@ -22,12 +23,13 @@ pub fn first_misnamed(
     alloc: Global,
     program: &Node,
     scoping: &Scoping,
+    legacy: bool,
 ) -> Result<Option<NodeId>, OutOfMemory>
-    ensures { IfOk result (λ found. number_at found ≡ misnamed scoping.now (node_doc program.now)) }
+    ensures { IfOk result (λ found. number_at found ≡ misnamed legacy scoping.now (node_doc program.now)) }
 {
-    let members = members_of(alloc, program, scoping)?;
+    let members = members_of(alloc, program, scoping, legacy)?;
     let repeated = first_repeated(alloc, members.as_slice())?;
-    Ok(lesser(repeated, first_misused(program, scoping)))
+    Ok(lesser(repeated, first_misused(program, scoping, legacy)))
 }
 
 /// The lesser of two numbers, or the one that there is.

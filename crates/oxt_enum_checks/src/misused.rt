@@ -15,18 +15,18 @@ use oxt_search::first::first_in;
 use oxt_search::search::{Inside, Search, Visit};
 use oxt_tree::ids::NodeId;
 use oxt_tree::tree::Node;
-use oxt_unbuilt::dropped::is_dropped;
+use oxt_unbuilt::dropped::{inside_dropped, is_dropped};
 
 /// The first bare name in the program, outside what is erased and outside types, that means a member of an enum
-/// and is written, or names an element of JSX.
+/// and is written, or names an element of JSX. Under `legacy` the decorators of a field with `declare` are not erased.
 #[tactic(auto, using(crate::proofs::Numbers::number_of_found))]
-pub fn first_misused(program: &Node, scoping: &Scoping) -> Option<NodeId>
-    ensures { number_at result ≡ misused scoping.now (node_doc program.now) }
+pub fn first_misused(program: &Node, scoping: &Scoping, legacy: bool) -> Option<NodeId>
+    ensures { number_at result ≡ misused legacy scoping.now (node_doc program.now) }
 {
     if !has_members(scoping) {
         return None;
     }
-    first_in(&Misuses { scoping }, program, false)
+    first_in(&Misuses { scoping, legacy }, program, false)
 }
 
 /// The search for such names. What is handed down is whether a name there names an element.
@@ -34,6 +34,8 @@ pub fn first_misused(program: &Node, scoping: &Scoping) -> Option<NodeId>
 struct Misuses<'a> {
     /// What the names mean.
     scoping: &'a Scoping,
+    /// Whether decorators have TypeScript's older meaning.
+    legacy: bool,
 }
 
 impl<'a> Search for Misuses<'a> {
@@ -45,13 +47,13 @@ impl<'a> Search for Misuses<'a> {
 
     ghost view = { number_of };
 
-    ghost sought = { λ misuses. sought misuses.scoping.now };
+    ghost sought = { λ misuses. sought misuses.legacy misuses.scoping.now };
 
     fn visit(&self, node: &Node, is_element: bool) -> Visit<NodeId, bool> {
         if is_dropped(node) {
             Visit {
                 found: None,
-                inside: Inside::Skipped,
+                inside: inside_dropped(self.legacy, node, false),
             }
         } else {
             Visit {

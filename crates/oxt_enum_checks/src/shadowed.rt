@@ -1,20 +1,24 @@
 //! The first bare name of a member at which the name of its enum means something else.
-ghost use Rattle.std.specs.Prelude.{◌≡◌, ◌++◌, IfOk, OnOk, option_map};
+ghost use Rattle.std.specs.Prelude.{◌≡◌, ◌++◌, IfOk, OnOk, codes, map, option_map, slice_get};
 ghost use Rattle.oxt_enum_checks.specs.Around.{around_view};
-ghost use Rattle.oxt_enum_checks.specs.Shadows.{all_among, all_shadows, initializer_shadows, least, lesser, member_shadows, shadow_view, shadow_views, shadowed};
-ghost use Rattle.oxt_tree.specs.View.{doc_or_nil, docs_in, node_doc, part_doc};
+ghost use Rattle.oxt_enum_checks.specs.Shadows.{all_among, all_at, all_shadows, initializer_shadows, least, left_all, lesser, member_shadows, shadow_view, shadow_views, shadowed};
+ghost use Rattle.oxt_grammar.specs.Field.{row_view};
+ghost use Rattle.oxt_grammar.specs.Rows.{row_of};
+ghost use Rattle.oxt_tree.specs.View.{doc_of_part, doc_or_nil, docs_in, node_doc, part_doc};
 
 use crate::around::{EnumAround, enum_of, within};
 use crate::misused::has_members;
 use crate::shadows::{Search, push_initializer};
 use oxt_grammar::field::Field;
+use oxt_grammar::holds::Row;
 use oxt_grammar::kind::Kind;
 use oxt_names::ids::SymbolId;
 use oxt_scoping::scoping::Scoping;
+use oxt_tree::fields::place_of;
 use oxt_tree::ids::{NodeId, OutOfMemory};
 use oxt_tree::name::Name;
 use oxt_tree::tree::{Node, Part};
-use oxt_unbuilt::dropped::is_dropped;
+use oxt_unbuilt::dropped::{is_declared_field, is_dropped};
 use std::alloc::Global;
 
 /// A bare name of a member at which the name of its enum means something else.
@@ -27,7 +31,8 @@ pub struct ShadowedName<'a> {
 }
 
 /// The bare name of the least number, outside what is erased and outside types, that stands in an initializer of
-/// an enum and means a member of that enum, where the name of the enum means a declaration of the initializer.
+/// an enum and means a member of that enum, where the name of the enum means a declaration of the initializer. Under
+/// `legacy` the decorators of a field with `declare` are not erased.
 ///
 /// # Errors
 ///
@@ -36,14 +41,15 @@ pub fn first_shadowed<'a>(
     alloc: Global,
     program: &'a Node,
     scoping: &'a Scoping,
+    legacy: bool,
 ) -> Result<Option<ShadowedName<'a>>, OutOfMemory>
-    ensures { IfOk result (λ found. option_map shadow_view found ≡ shadowed scoping.now (node_doc program.now)) }
+    ensures { IfOk result (λ found. option_map shadow_view found ≡ shadowed legacy scoping.now (node_doc program.now)) }
 {
     if !has_members(scoping) {
         return Ok(None);
     }
     let mut out = Vec::new(alloc);
-    push_node(alloc, scoping, program, None, &mut out)?;
+    push_node(alloc, scoping, legacy, program, None, &mut out)?;
     Ok(least(out.as_slice()))
 }
 
@@ -81,19 +87,82 @@ fn lesser<'a>(least: Option<ShadowedName<'a>>, name: ShadowedName<'a>) -> Option
 fn push_node<'a>(
     alloc: Global,
     scoping: &'a Scoping,
+    legacy: bool,
     node: &'a Node,
     around: Option<SymbolId>,
     out: &mut Vec<ShadowedName<'a>>,
 ) -> Result<(), OutOfMemory>
     ensures { OnOk result (shadow_views out.new.items
-        ≡ shadow_views out.old.items ++ all_shadows scoping.now (node_doc node.now) around) }
+        ≡ shadow_views out.old.items ++ all_shadows legacy scoping.now (node_doc node.now) around) }
 {
     if is_dropped(node) {
-        return Ok(());
+        return push_left(alloc, scoping, legacy, node, around, out);
     }
-    push_member(alloc, scoping, node, around, out)?;
+    push_member(alloc, scoping, legacy, node, around, out)?;
     let within = within(scoping, node, around);
-    push_each(alloc, scoping, &node.parts, within, out)
+    push_each(alloc, scoping, legacy, &node.parts, within, out)
+}
+
+/// Appends such names in the initializers in what of an erased node is left: the decorators of a field with `declare`.
+#[cycle(find)]
+fn push_left<'a>(
+    alloc: Global,
+    scoping: &'a Scoping,
+    legacy: bool,
+    node: &'a Node,
+    around: Option<SymbolId>,
+    out: &mut Vec<ShadowedName<'a>>,
+) -> Result<(), OutOfMemory>
+    ensures { OnOk result (shadow_views out.new.items ≡ shadow_views out.old.items
+        ++ left_all legacy node.now.kind (docs_in node.now.parts.items) (all_at legacy scoping.now (docs_in node.now.parts.items) (row_of node.now.kind) (codes "decorators") around)) }
+{
+    let rows = node.kind.rows();
+    if legacy && is_declared_field(node) {
+        push_decorators(alloc, scoping, legacy, rows, &node.parts, around, out)
+    } else {
+        Ok(())
+    }
+}
+
+/// Appends such names in the initializers in the decorators of a node with these rows and parts.
+#[cycle(find)]
+fn push_decorators<'a>(
+    alloc: Global,
+    scoping: &'a Scoping,
+    legacy: bool,
+    rows: &[Row],
+    parts: &'a [Part],
+    around: Option<SymbolId>,
+    out: &mut Vec<ShadowedName<'a>>,
+) -> Result<(), OutOfMemory>
+    ensures { OnOk result (shadow_views out.new.items ≡ shadow_views out.old.items
+        ++ all_at legacy scoping.now (docs_in parts.now) (map row_view rows.now) (codes "decorators") around) }
+{
+    match place_of(rows, Field::Decorators) {
+        Some(place) => push_at(alloc, scoping, legacy, parts, place, around, out),
+        None => Ok(()),
+    }
+}
+
+/// Appends such names in the initializers in the part at that place.
+#[cycle(find)]
+#[tactic(auto, using(crate::proofs::Alone::nothing_there))]
+fn push_at<'a>(
+    alloc: Global,
+    scoping: &'a Scoping,
+    legacy: bool,
+    parts: &'a [Part],
+    place: usize,
+    around: Option<SymbolId>,
+    out: &mut Vec<ShadowedName<'a>>,
+) -> Result<(), OutOfMemory>
+    ensures { OnOk result (shadow_views out.new.items ≡ shadow_views out.old.items
+        ++ all_shadows legacy scoping.now (doc_of_part (slice_get parts.now place)) around) }
+{
+    match parts.get(place) {
+        Some(part) => push_part(alloc, scoping, legacy, part, around, out),
+        None => Ok(()),
+    }
 }
 
 /// Appends such names in the initializers in the part, which stands in that enum.
@@ -101,16 +170,17 @@ fn push_node<'a>(
 fn push_part<'a>(
     alloc: Global,
     scoping: &'a Scoping,
+    legacy: bool,
     part: &'a Part,
     around: Option<SymbolId>,
     out: &mut Vec<ShadowedName<'a>>,
 ) -> Result<(), OutOfMemory>
     ensures { OnOk result (shadow_views out.new.items
-        ≡ shadow_views out.old.items ++ all_shadows scoping.now (part_doc part.now) around) }
+        ≡ shadow_views out.old.items ++ all_shadows legacy scoping.now (part_doc part.now) around) }
 {
     match part {
-        Part::Node(node) => push_node(alloc, scoping, node, around, out),
-        Part::List(parts) => push_each(alloc, scoping, parts, around, out),
+        Part::Node(node) => push_node(alloc, scoping, legacy, node, around, out),
+        Part::List(parts) => push_each(alloc, scoping, legacy, parts, around, out),
         _ => Ok(()),
     }
 }
@@ -121,15 +191,16 @@ fn push_part<'a>(
 fn push_each<'a>(
     alloc: Global,
     scoping: &'a Scoping,
+    legacy: bool,
     parts: &'a [Part],
     around: Option<SymbolId>,
     out: &mut Vec<ShadowedName<'a>>,
 ) -> Result<(), OutOfMemory>
     ensures { OnOk result (shadow_views out.new.items
-        ≡ shadow_views out.old.items ++ all_among scoping.now (docs_in parts.now) around) }
+        ≡ shadow_views out.old.items ++ all_among legacy scoping.now (docs_in parts.now) around) }
 {
     for part in parts {
-        push_part(alloc, scoping, part, around, out)?;
+        push_part(alloc, scoping, legacy, part, around, out)?;
     }
     Ok(())
 }
@@ -138,16 +209,24 @@ fn push_each<'a>(
 fn push_member<'a>(
     alloc: Global,
     scoping: &'a Scoping,
+    legacy: bool,
     node: &'a Node,
     around: Option<SymbolId>,
     out: &mut Vec<ShadowedName<'a>>,
 ) -> Result<(), OutOfMemory>
     ensures { OnOk result (shadow_views out.new.items
-        ≡ shadow_views out.old.items ++ member_shadows scoping.now node.now.kind (docs_in node.now.parts.items) around) }
+        ≡ shadow_views out.old.items ++ member_shadows legacy scoping.now node.now.kind (docs_in node.now.parts.items) around) }
 {
     if node.kind.is(Kind::TSEnumMember) {
         let around = enum_of(scoping, around);
-        push_in(alloc, scoping, node.field(Field::Initializer), around, out)
+        push_in(
+            alloc,
+            scoping,
+            legacy,
+            node.field(Field::Initializer),
+            around,
+            out,
+        )
     } else {
         Ok(())
     }
@@ -157,15 +236,23 @@ fn push_member<'a>(
 fn push_in<'a>(
     alloc: Global,
     scoping: &'a Scoping,
+    legacy: bool,
     initializer: Option<&'a Part>,
     around: Option<EnumAround<'a>>,
     out: &mut Vec<ShadowedName<'a>>,
 ) -> Result<(), OutOfMemory>
     ensures { OnOk result (shadow_views out.new.items
-        ≡ shadow_views out.old.items ++ initializer_shadows scoping.now (doc_or_nil initializer.entry) (option_map around_view around.entry)) }
+        ≡ shadow_views out.old.items ++ initializer_shadows legacy scoping.now (doc_or_nil initializer.entry) (option_map around_view around.entry)) }
 {
     match around {
-        Some(around) => push_initializer(alloc, Search { scoping, around }, initializer, out),
+        Some(around) => {
+            let search = Search {
+                scoping,
+                legacy,
+                around,
+            };
+            push_initializer(alloc, search, initializer, out)
+        }
         None => Ok(()),
     }
 }

@@ -1,13 +1,14 @@
 //! Bare names of members in an initializer, where the name of the enum means something that it declares.
-ghost use Rattle.std.specs.Prelude.{◌≡◌, ◌++◌, [], OnOk, map};
+ghost use Rattle.std.specs.Prelude.{◌≡◌, ◌++◌, ◌&&◌, [], OnOk, map};
 ghost use Rattle.oxt_declares.specs.Declares.{each_found};
 ghost use Rattle.oxt_declares.specs.RoleOf.{role_of};
 ghost use Rattle.oxt_enum_checks.specs.Around.{around_view};
-ghost use Rattle.oxt_enum_checks.specs.Shadows.{declares_name, each_shadows, field_shadows, is_shadowed, own_shadow, read_shadows, shadow_views, shadows, step_shadows};
+ghost use Rattle.oxt_enum_checks.specs.Shadows.{declares_name, each_shadows, field_shadows, is_shadowed, left_shadows, own_shadow, read_shadows, shadow_views, shadows, step_shadows};
 ghost use Rattle.oxt_scopes.specs.Stack.{levels};
 ghost use Rattle.oxt_grammar.specs.Field.{row_view};
 ghost use Rattle.oxt_grammar.specs.Rows.{row_of};
 ghost use Rattle.oxt_tree.specs.View.{doc_or_nil, docs_in, node_doc, part_doc};
+ghost use Rattle.oxt_unbuilt.specs.Dropped.{is_declared_field};
 
 use crate::around::EnumAround;
 use crate::shadowed::ShadowedName;
@@ -20,7 +21,7 @@ use oxt_scopes::way::{Pass, Reading, Step, Way, step_of};
 use oxt_scoping::scoping::Scoping;
 use oxt_tree::ids::{NodeId, OutOfMemory};
 use oxt_tree::tree::{Node, Part};
-use oxt_unbuilt::dropped::is_dropped;
+use oxt_unbuilt::dropped::{is_declared_field, is_dropped};
 use std::alloc::Global;
 
 /// What is looked for: bare names of the members of an enum, in an initializer of it.
@@ -28,6 +29,8 @@ use std::alloc::Global;
 pub struct Search<'a> {
     /// The table of the program.
     pub scoping: &'a Scoping,
+    /// Whether decorators have TypeScript's older meaning.
+    pub legacy: bool,
     /// The enum.
     pub around: EnumAround<'a>,
 }
@@ -40,7 +43,7 @@ pub fn push_initializer<'a>(
     out: &mut Vec<ShadowedName<'a>>,
 ) -> Result<(), OutOfMemory>
     ensures { OnOk result (shadow_views out.new.items
-        ≡ shadow_views out.old.items ++ shadows search.entry.scoping.now (around_view search.entry.around) (doc_or_nil initializer.entry) Way.Whole []) }
+        ≡ shadow_views out.old.items ++ shadows search.entry.legacy search.entry.scoping.now (around_view search.entry.around) (doc_or_nil initializer.entry) Way.Whole []) }
 {
     let mut scopes = Vec::new(alloc);
     match initializer {
@@ -60,20 +63,43 @@ fn push_node<'a>(
     out: &mut Vec<ShadowedName<'a>>,
 ) -> Result<(), OutOfMemory>
     ensures pushed { OnOk result (shadow_views out.new.items
-        ≡ shadow_views out.old.items ++ shadows search.entry.scoping.now (around_view search.entry.around) (node_doc node.now) way (levels scopes.old.items)) }
+        ≡ shadow_views out.old.items ++ shadows search.entry.legacy search.entry.scoping.now (around_view search.entry.around) (node_doc node.now) way (levels scopes.old.items)) }
     ensures kept { OnOk result (levels scopes.new.items ≡ levels scopes.old.items) }
 {
-    if is_dropped(node) {
-        return Ok(());
-    }
     let reading = reading_of(node, way);
     let rows = node.kind.rows();
+    if is_dropped(node) {
+        return push_left(alloc, search, node, reading, scopes, out);
+    }
     let _span = node.span;
     match step_of(reading.role, way) {
         Step::Use => push_use(search, node.id, scopes, out),
         Step::Plain => push_fields(alloc, search, rows, &node.parts, reading, scopes, out),
         Step::Opens => push_scope(alloc, search, node, reading, scopes, out),
         Step::Hides => push_hidden(alloc, search, node, reading, scopes, out),
+    }
+}
+
+/// Appends such names in what of an erased node is left, which is read so: the decorators of a field with `declare`.
+#[cycle(shadows)]
+fn push_left<'a>(
+    alloc: Global,
+    search: Search<'a>,
+    node: &'a Node,
+    reading: Reading,
+    scopes: &mut Vec<Scope<'a>>,
+    out: &mut Vec<ShadowedName<'a>>,
+) -> Result<(), OutOfMemory>
+    ensures pushed { OnOk result (shadow_views out.new.items
+        ≡ shadow_views out.old.items ++ left_shadows (search.entry.legacy && is_declared_field node.now.kind (docs_in node.now.parts.items)) reading (field_shadows search.entry.legacy search.entry.scoping.now (around_view search.entry.around) (docs_in node.now.parts.items) (row_of node.now.kind)) (levels scopes.old.items)) }
+    ensures kept { OnOk result (levels scopes.new.items ≡ levels scopes.old.items) }
+{
+    let rows = node.kind.rows();
+    let beyond = reading.with(Pass::Beyond);
+    if search.legacy && is_declared_field(node) {
+        push_fields(alloc, search, rows, &node.parts, beyond, scopes, out)
+    } else {
+        Ok(())
     }
 }
 
@@ -124,7 +150,7 @@ fn push_scope<'a>(
     out: &mut Vec<ShadowedName<'a>>,
 ) -> Result<(), OutOfMemory>
     ensures pushed { OnOk result (shadow_views out.new.items
-        ≡ shadow_views out.old.items ++ step_shadows Step.Opens search.entry.scoping.now (around_view search.entry.around) reading node.now.kind node.now.id.0 (docs_in node.now.parts.items) (levels scopes.old.items) (each_found (docs_in node.now.parts.items)) (field_shadows search.entry.scoping.now (around_view search.entry.around) (docs_in node.now.parts.items) (row_of node.now.kind))) }
+        ≡ shadow_views out.old.items ++ step_shadows Step.Opens search.entry.scoping.now (around_view search.entry.around) reading node.now.kind node.now.id.0 (docs_in node.now.parts.items) (levels scopes.old.items) (each_found (docs_in node.now.parts.items)) (field_shadows search.entry.legacy search.entry.scoping.now (around_view search.entry.around) (docs_in node.now.parts.items) (row_of node.now.kind))) }
     ensures kept { OnOk result (levels scopes.new.items ≡ levels scopes.old.items) }
 {
     let rows = node.kind.rows();
@@ -148,7 +174,7 @@ fn push_hidden<'a>(
     out: &mut Vec<ShadowedName<'a>>,
 ) -> Result<(), OutOfMemory>
     ensures pushed { OnOk result (shadow_views out.new.items
-        ≡ shadow_views out.old.items ++ step_shadows Step.Hides search.entry.scoping.now (around_view search.entry.around) reading node.now.kind node.now.id.0 (docs_in node.now.parts.items) (levels scopes.old.items) (each_found (docs_in node.now.parts.items)) (field_shadows search.entry.scoping.now (around_view search.entry.around) (docs_in node.now.parts.items) (row_of node.now.kind))) }
+        ≡ shadow_views out.old.items ++ step_shadows Step.Hides search.entry.scoping.now (around_view search.entry.around) reading node.now.kind node.now.id.0 (docs_in node.now.parts.items) (levels scopes.old.items) (each_found (docs_in node.now.parts.items)) (field_shadows search.entry.legacy search.entry.scoping.now (around_view search.entry.around) (docs_in node.now.parts.items) (row_of node.now.kind))) }
     ensures kept { OnOk result (levels scopes.new.items ≡ levels scopes.old.items) }
 {
     let rows = node.kind.rows();
@@ -180,7 +206,7 @@ fn push_fields<'a>(
     out: &mut Vec<ShadowedName<'a>>,
 ) -> Result<(), OutOfMemory>
     ensures pushed { OnOk result (shadow_views out.new.items
-        ≡ shadow_views out.old.items ++ field_shadows search.entry.scoping.now (around_view search.entry.around) (docs_in parts.now) (map row_view rows.now) reading (levels scopes.old.items)) }
+        ≡ shadow_views out.old.items ++ field_shadows search.entry.legacy search.entry.scoping.now (around_view search.entry.around) (docs_in parts.now) (map row_view rows.now) reading (levels scopes.old.items)) }
     ensures kept { OnOk result (levels scopes.new.items ≡ levels scopes.old.items) }
 {
     for (i, part) in parts.iter().enumerate() {
@@ -203,7 +229,7 @@ fn push_read<'a>(
     out: &mut Vec<ShadowedName<'a>>,
 ) -> Result<(), OutOfMemory>
     ensures pushed { OnOk result (shadow_views out.new.items
-        ≡ shadow_views out.old.items ++ read_shadows way (shadows search.entry.scoping.now (around_view search.entry.around) (part_doc part.now)) (levels scopes.old.items)) }
+        ≡ shadow_views out.old.items ++ read_shadows way (shadows search.entry.legacy search.entry.scoping.now (around_view search.entry.around) (part_doc part.now)) (levels scopes.old.items)) }
     ensures kept { OnOk result (levels scopes.new.items ≡ levels scopes.old.items) }
 {
     match way {
@@ -223,7 +249,7 @@ fn push_part<'a>(
     out: &mut Vec<ShadowedName<'a>>,
 ) -> Result<(), OutOfMemory>
     ensures pushed { OnOk result (shadow_views out.new.items
-        ≡ shadow_views out.old.items ++ shadows search.entry.scoping.now (around_view search.entry.around) (part_doc part.now) way (levels scopes.old.items)) }
+        ≡ shadow_views out.old.items ++ shadows search.entry.legacy search.entry.scoping.now (around_view search.entry.around) (part_doc part.now) way (levels scopes.old.items)) }
     ensures kept { OnOk result (levels scopes.new.items ≡ levels scopes.old.items) }
 {
     match part {
@@ -245,7 +271,7 @@ fn push_each<'a>(
     out: &mut Vec<ShadowedName<'a>>,
 ) -> Result<(), OutOfMemory>
     ensures pushed { OnOk result (shadow_views out.new.items
-        ≡ shadow_views out.old.items ++ each_shadows search.entry.scoping.now (around_view search.entry.around) (docs_in parts.now) way (levels scopes.old.items)) }
+        ≡ shadow_views out.old.items ++ each_shadows search.entry.legacy search.entry.scoping.now (around_view search.entry.around) (docs_in parts.now) way (levels scopes.old.items)) }
     ensures kept { OnOk result (levels scopes.new.items ≡ levels scopes.old.items) }
 {
     for part in parts {

@@ -16,7 +16,7 @@ use oxt_search::first::first_in;
 use oxt_search::search::{Inside, Search, Visit};
 use oxt_tree::ids::{NodeId, Span};
 use oxt_tree::tree::{Node, Part};
-use oxt_unbuilt::dropped::is_dropped;
+use oxt_unbuilt::dropped::{inside_dropped, is_dropped};
 
 /// A member whose constant would be larger than the largest.
 #[derive(Clone, Copy, Debug, PartialEq, Eq)]
@@ -28,15 +28,15 @@ pub struct WideMember {
 }
 
 /// The first member of an enum of the program, outside what is erased, that has no initializer and stands behind
-/// a member whose constant is the largest.
+/// a member whose constant is the largest. Under `legacy` the decorators of a field with `declare` are not erased.
 #[tactic(auto, using(oxt_search::proofs::Given::as_it_is))]
-pub fn first_wide(program: &Node, scoping: &Scoping) -> Option<WideMember>
-    ensures { result ≡ wide scoping.now (node_doc program.now) }
+pub fn first_wide(program: &Node, scoping: &Scoping, legacy: bool) -> Option<WideMember>
+    ensures { result ≡ wide legacy scoping.now (node_doc program.now) }
 {
     if !has_members(scoping) {
         return None;
     }
-    first_in(&Wides { scoping }, program, None)
+    first_in(&Wides { scoping, legacy }, program, None)
 }
 
 /// The search for such members. What is handed down is the first of the body around.
@@ -44,6 +44,8 @@ pub fn first_wide(program: &Node, scoping: &Scoping) -> Option<WideMember>
 struct Wides<'a> {
     /// The constants of the members.
     scoping: &'a Scoping,
+    /// Whether decorators have TypeScript's older meaning.
+    legacy: bool,
 }
 
 impl<'a> Search for Wides<'a> {
@@ -55,7 +57,7 @@ impl<'a> Search for Wides<'a> {
 
     ghost view = { λ member. member };
 
-    ghost sought = { λ wides. sought wides.scoping.now };
+    ghost sought = { λ wides. sought wides.legacy wides.scoping.now };
 
     #[tactic(auto, using(oxt_search::proofs::Given::as_it_is))]
     fn visit(
@@ -66,7 +68,7 @@ impl<'a> Search for Wides<'a> {
         if is_dropped(node) {
             Visit {
                 found: None,
-                inside: Inside::Skipped,
+                inside: inside_dropped(self.legacy, node, None),
             }
         } else {
             Visit {

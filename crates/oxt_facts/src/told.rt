@@ -100,9 +100,12 @@ pub struct ToldStored {
     pub name: Name,
 }
 
-/// What is told of the body of a class that has parameter properties or fields that move into its constructor.
+/// What is told of the body of a class that has parameter properties or fields that move into its constructor, whose alias is kept
+/// in it, or whose elements are called in it.
 #[derive(Debug, Drop)]
 pub struct ToldClass {
+    /// Whether its constructor puts more on the object than is written in it, or empty fields stand in front.
+    pub gains: bool,
     /// The names of the empty fields that stand in front of its own.
     pub fields: Vec<Name>,
     /// The parameters that the constructor puts on the object.
@@ -113,6 +116,41 @@ pub struct ToldClass {
     pub has_constructor: bool,
     /// Whether the class extends another.
     pub is_derived: bool,
+    /// The tag by which the class is kept in front of its static parts, if it is.
+    pub alias: Option<Name>,
+    /// Whether its last static part calls the decorators of its elements.
+    pub has_calls: bool,
+}
+
+/// By what name something is called: a name of the source, or a made one by its tag.
+#[derive(Debug, Drop)]
+pub enum ToldUse {
+    Name(ToldName),
+    Made(Name),
+}
+
+/// What is told of the call that an element of a class gives.
+#[derive(Debug, Drop)]
+pub struct ToldCall {
+    /// The class.
+    pub class: ToldUse,
+    /// Whether the element is one of the class itself.
+    pub is_static: bool,
+    /// Whether its name is private.
+    pub is_private: bool,
+    /// Whether it is a field.
+    pub is_field: bool,
+    /// The tag by which the value of its key is kept, if it is.
+    pub tag: Option<Name>,
+}
+
+/// What is told of an element of a class that gives a call.
+#[derive(Debug, Drop)]
+pub struct ToldElement {
+    /// The call.
+    pub call: ToldCall,
+    /// Whether the element itself stays.
+    pub stays: bool,
 }
 
 /// What is told of a field whose value is put where it moves to.
@@ -124,6 +162,63 @@ pub struct ToldField {
     pub stays: bool,
     /// The tag by which the value of its key is kept, if it is.
     pub tag: Option<Name>,
+    /// The call that it gives, if it gives one.
+    pub call: Option<ToldCall>,
+    /// Whether its key is read behind the one in which the class is kept.
+    pub is_last: bool,
+}
+
+/// The name of the field in which an accessor keeps its value.
+#[derive(Debug, Drop)]
+pub enum ToldStorage {
+    /// It is made from that text.
+    Plain(Name),
+    /// It is made from the name of the temporary with that tag, which keeps the value of the accessor's key.
+    Kept(Name),
+}
+
+/// The object on which an accessor keeps its value.
+#[derive(Debug, Drop)]
+pub enum ToldObject {
+    This,
+    Use(ToldUse),
+}
+
+/// What is told of an accessor that becomes a field, a getter and a setter.
+#[derive(Debug, Drop)]
+pub struct ToldAccessor {
+    /// Whether it is one of the class itself.
+    pub is_static: bool,
+    /// The name of its field.
+    pub storage: ToldStorage,
+    /// The object that has the field.
+    pub object: ToldObject,
+    /// The group of the setter's parameter.
+    pub value_group: u64,
+    /// Whether the value of its field is put in the constructor.
+    pub moves: bool,
+    /// The call that it gives, if it gives one.
+    pub call: Option<ToldCall>,
+}
+
+/// What is told of the declaration of a class that is decorated, behind which the decorators of its elements are called, or that
+/// takes a made name.
+#[derive(Debug, Drop)]
+pub struct ToldDecorated {
+    /// Whether it is decorated itself.
+    pub is_decorated: bool,
+    /// The group of the name in it.
+    pub number: u64,
+    /// The name by which it is called, unless it has none.
+    pub name: Option<ToldUse>,
+    /// The tag of the name in it, where the source has none there.
+    pub inner: Option<Name>,
+    /// The tag by which it is kept, if it is.
+    pub alias: Option<Name>,
+    /// Whether it is kept where it is declared.
+    pub keeps_alias: bool,
+    /// Whether the decorators of its elements are called behind it.
+    pub has_calls: bool,
 }
 
 /// What is told of a node.
@@ -152,12 +247,29 @@ pub enum Told {
     Export(ToldExport),
     /// It is a declarator whose value is put on the object of a namespace too.
     Stored(ToldStored),
-    /// It is the body of a class whose constructor puts more on the object than is written in it.
+    /// It is the body of a class that has more in it than is written there.
     Gains(ToldClass),
     /// It is a field whose value is put elsewhere.
     Moves(ToldField),
-    /// It is a field that goes, but for the effects of its key.
-    LeavesKey,
+    /// It is a field that goes, but for the effects of its key, which is read behind the one in which the class is kept or not.
+    LeavesKey(bool),
+    /// It is an element of a class that gives a call.
+    Called(ToldElement),
+    /// It is an accessor that becomes a field, a getter and a setter.
+    Accessor(ToldAccessor),
+    /// It is the declaration of a class that is decorated, behind which the decorators of its elements are called, or that takes
+    /// a made name.
+    Decorated(ToldDecorated),
+    /// It is the nameless expression of a class that takes the made name of that tag.
+    Named(Name),
+    /// It is the default export of the declaration of a class that is called by that name, and decorated itself or not.
+    DefaultClass(bool, ToldUse),
+    /// It is a decorator that is applied, to the parameter at that place if it is one of a parameter.
+    Applied(Option<u64>),
+    /// It is a name that is read as the made one of that tag.
+    Alias(Name),
+    /// It is a name that means that group.
+    Inner(u64),
 }
 
 /// What is told of nodes, by their numbers.

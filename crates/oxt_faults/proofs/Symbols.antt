@@ -81,15 +81,15 @@ captured_so s ls n None = refl
 captured_so s ls n (Some i) = captured_mark s ls n s.symbols i.0
 
 -- What is marked so is sought.
-same_sought : (s : Scoped) (ls : ℕ → Bool) → marked s (captured_symbols s ls) ≡ spec.sought s ls
-same_sought s ls = λ j. record {
+same_sought : (legacy : Bool) (s : Scoped) (ls : ℕ → Bool) → marked legacy s (captured_symbols s ls) ≡ spec.sought legacy s ls
+same_sought legacy s ls = λ j. record {
   at = λ u k i ds. cond (is_dropped_by k ds) None (captured_so s ls i (value_meant s i) j);
-  inside = (spec.sought s ls).inside;
-  in_field = (spec.sought s ls).in_field;
+  inside = (spec.sought legacy s ls).inside;
+  in_field = (spec.sought legacy s ls).in_field;
 }
 
-pub marked_found : (s : Scoped) (ls : ℕ → Bool) (bs : List Bool) (d : Doc) (found : Option Capture) → bs ≡ captured_symbols s ls → found ≡ first_in (marked s bs) d tt → found ≡ captured s ls d
-marked_found s ls bs d found are is = is ∙ ap (λ cs. first_in (marked s cs) d tt) are ∙ ap (λ q. first_in q d tt) (same_sought s ls)
+pub marked_found : (legacy : Bool) (s : Scoped) (ls : ℕ → Bool) (bs : List Bool) (d : Doc) (found : Option Capture) → bs ≡ captured_symbols s ls → found ≡ first_in (marked legacy s bs) d tt → found ≡ captured legacy s ls d
+marked_found legacy s ls bs d found are is = is ∙ ap (λ cs. first_in (marked legacy s cs) d tt) are ∙ ap (λ q. first_in q d tt) (same_sought legacy s ls)
 
 -- ---- names that scopes have
 

@@ -16,7 +16,7 @@ use Rattle.oxt_names.specs.declared.ids.ScopeId.{ScopeId}
 use Rattle.oxt_names.specs.declared.ids.SymbolId.{SymbolId}
 use Rattle.oxt_tree.specs.Doc.{Doc}
 use Rattle.oxt_tree.specs.Names.{name_bytes}
-use Rattle.oxt_unbuilt.specs.Dropped.{is_dropped_by}
+use Rattle.oxt_unbuilt.specs.Dropped.{inside_dropped_by, is_dropped_by}
 
 -- the number of the node that is the name, and its spelling
 pub record Capture : Type 0 where
@@ -102,16 +102,16 @@ captured_at s ls n = captured_as s ls n (symbol_at s.symbols (value_meant s n))
 
 -- ---- trees
 
--- outside what is erased, each node that is a captured name
-abbrev pub sought : Scoped → (ℕ → Bool) → Sought (Unit {0}) Capture
-sought s ls =
+-- outside what is erased, each node that is a captured name; the flag says that decorators have their older meaning
+abbrev pub sought : Bool → Scoped → (ℕ → Bool) → Sought (Unit {0}) Capture
+sought legacy s ls =
     record {
       at = λ u k i ds. if is_dropped_by k ds then None else captured_at s ls i;
-      inside = λ u k i ds. if is_dropped_by k ds then inside.Skipped else inside.Alike u;
+      inside = λ u k i ds. if is_dropped_by k ds then inside_dropped_by legacy k ds tt else inside.Alike u;
       in_field = λ u k r. Some u;
     }
 
 -- The first captured name of a whole tree, of which the declarations with these names are left out: a node stands before
 -- those in it.
-abbrev pub captured : Scoped → (ℕ → Bool) → Doc → Option Capture
-captured s ls d = first_in (sought s ls) d tt
+abbrev pub captured : Bool → Scoped → (ℕ → Bool) → Doc → Option Capture
+captured legacy s ls d = first_in (sought legacy s ls) d tt

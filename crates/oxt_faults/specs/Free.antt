@@ -1,10 +1,14 @@
--- Free names that lowered code has, where they would mean a declaration.
-use Rattle.std.specs.Prelude.{ℕ, List, Bool, false, ◌&&◌, ◌||◌, if◌then◌else◌, Option, None, Some, option_map, codes}
+-- Names that lowered code has of its own, where they would mean a declaration.
+use Rattle.std.specs.Prelude.{ℕ, List, Bool, false, not, ◌&&◌, ◌||◌, if◌then◌else◌, Option, None, Some, option_map, codes}
+use Rattle.std.specs.Str.{bytes_eq}
+use Rattle.oxt_decorated.specs.Calls.{is_called, is_decorated}
+use Rattle.oxt_faults.specs.Around.{is_class}
 use Rattle.oxt_faults.specs.Captured.{Capture, emits_at}
 use Rattle.oxt_faults.specs.declared.free.FoundFree.{FoundFree}
 use Rattle.oxt_faults.specs.declared.free.FreeWord.{FreeWord}
 use Rattle.oxt_faults.specs.declared.free.FreeWord.TheVariants as word
 use Rattle.oxt_faults.specs.declared.free.Taken.{Taken}
+use Rattle.oxt_grammar.specs.Field.{Field}
 use Rattle.oxt_grammar.specs.Places.{same_kind}
 use Rattle.oxt_grammar.specs.declared.kind.Kind.{Kind}
 use Rattle.oxt_grammar.specs.declared.kind.Kind.TheVariants as kind
@@ -13,55 +17,116 @@ use Rattle.oxt_names.specs.declared.ids.ScopeId.{ScopeId}
 use Rattle.oxt_scoping.specs.Scoped.{Scoped, at_node}
 use Rattle.oxt_search.specs.First.{first_in}
 use Rattle.oxt_search.specs.Sought.{Sought}
+use Rattle.oxt_search.specs.declared.search.Inside.{Inside}
 use Rattle.oxt_search.specs.declared.search.Inside.TheVariants as inside
-use Rattle.oxt_tree.specs.Doc.{Doc, Docs}
-use Rattle.oxt_unbuilt.specs.Dropped.{is_dropped_by}
+use Rattle.oxt_tree.specs.Doc.{Doc, node, Docs}
+use Rattle.oxt_tree.specs.Fields.{field_of, is_set, is_text, named}
+use Rattle.oxt_unbuilt.specs.Dropped.{inside_dropped_by, is_dropped_by}
 
 -- the names
 abbrev pub text_of_free : FreeWord → List ℕ
 text_of_free word.Module = codes "module"
 text_of_free word.Require = codes "require"
+text_of_free word.BabelHelpers = codes "babelHelpers"
+text_of_free word.Value = codes "value"
 
 abbrev pub free_view : FoundFree → Capture
 free_view f = record { node = f.node.0; name = text_of_free f.word }
 
 -- no declaration has one
 abbrev pub nothing_taken : Taken
-nothing_taken = record { «module» = false; require = false }
+nothing_taken = record { «module» = false; require = false; helpers = false; is_called = false; is_value = false }
 
--- the name that is made for a node, if a declaration around has it: `module` for an `export =`, and `require` for an
--- `import =` of a module that is kept
-abbrev pub word_at : (ℕ → Bool) → Taken → Kind → ℕ → Docs → Option FreeWord
-word_at ks t k i ds =
+-- ---- nodes
+
+-- a static `accessor`
+abbrev pub is_static_accessor : Kind → Docs → Bool
+is_static_accessor k ds = same_kind k kind.AccessorProperty && is_set (named (codes "static") k ds)
+
+-- The name that is made for a node that is not erased, if it would mean a declaration: `module` for an `export =`, `require`
+-- for an `import =` of a module that is kept, and `value` for a static `accessor` of a class of that name.
+abbrev pub made_word : (ℕ → Bool) → Taken → Kind → ℕ → Docs → Option FreeWord
+made_word ks t k i ds =
     if t.«module» && same_kind k kind.TSExportAssignment then Some word.Module
     else if t.require && (is_required k ds && ks i) then Some word.Require
+    else if t.is_value && is_static_accessor k ds then Some word.Value
     else None
+
+-- A call stands behind a class for a decorated element of a class declaration, and for a decorated class that is not erased,
+-- where the flag says that decorators have their older meaning.
+abbrev pub has_call : Bool → Taken → Kind → Docs → Bool
+has_call legacy t k ds =
+    legacy && ((t.is_called && is_called (node k 0 0 0 ds)) || (is_decorated (node k 0 0 0 ds) && not (is_dropped_by k ds)))
+
+-- the name that is made for a node, if it would mean a declaration; a call has `babelHelpers`, also that of a field that is
+-- only declared
+abbrev pub word_at : Bool → (ℕ → Bool) → Taken → Kind → ℕ → Docs → Option FreeWord
+word_at legacy ks t k i ds =
+    if t.helpers && has_call legacy t k ds then Some word.BabelHelpers
+    else if is_dropped_by k ds then None
+    else made_word ks t k i ds
 
 abbrev pub at_number : ℕ → FreeWord → Capture
 at_number i w = record { node = i; name = text_of_free w }
 
-abbrev pub free_at : (ℕ → Bool) → Taken → Kind → ℕ → Docs → Option Capture
-free_at ks t k i ds = option_map (at_number i) (word_at ks t k i ds)
+abbrev pub free_at : Bool → (ℕ → Bool) → Taken → Kind → ℕ → Docs → Option Capture
+free_at legacy ks t k i ds = option_map (at_number i) (word_at legacy ks t k i ds)
+
+-- ---- what is around
 
 -- with the names that declarations in a scope have which emit code
 abbrev pub in_scope : Scoped → Taken → Option ScopeId → Taken
 in_scope s t None = t
 in_scope s t (Some i) =
-    record { «module» = t.«module» || emits_at s (codes "module") i; require = t.require || emits_at s (codes "require") i }
+    record {
+      «module» = t.«module» || emits_at s (codes "module") i;
+      require = t.require || emits_at s (codes "require") i;
+      helpers = t.helpers || emits_at s (codes "babelHelpers") i;
+      is_called = t.is_called;
+      is_value = t.is_value;
+    }
 
 -- with those of the scope that the node of that number opens
 abbrev pub free_around : Scoped → Taken → ℕ → Taken
 free_around s t i = in_scope s t (at_node (record { 0 = i }) s.opened)
 
--- each such node outside what is erased; the state has what declarations around have
-abbrev pub sought : Scoped → (ℕ → Bool) → Sought Taken Capture
-sought s ks =
+-- of no element of a class
+abbrev pub outside_class : Taken → Taken
+outside_class t =
+    record { «module» = t.«module»; require = t.require; helpers = t.helpers; is_called = false; is_value = false }
+
+-- a class of the name `value`
+abbrev pub is_value_class : Kind → Docs → Bool
+is_value_class k ds = is_text (codes "value") (field_of (codes "name") (named (codes "id") k ds))
+
+-- of an element of a class
+abbrev pub seen_from : Taken → Kind → Docs → Taken
+seen_from t k ds =
     record {
-      at = λ t k i ds. if is_dropped_by k ds then None else free_at ks t k i ds;
-      inside = λ t k i ds. if is_dropped_by k ds then inside.Skipped else inside.Alike (free_around s t i);
-      in_field = λ t k r. Some t;
+      «module» = t.«module»;
+      require = t.require;
+      helpers = t.helpers;
+      is_called = same_kind k kind.ClassDeclaration;
+      is_value = is_value_class k ds;
     }
 
+-- in a field of a class: its elements alone have to know of it
+abbrev pub free_in : Taken → Field → Taken
+free_in t r = if bytes_eq r.name (codes "body") then t else outside_class t
+
+-- inside a node
+abbrev pub free_inside : Bool → Scoped → Taken → Kind → ℕ → Docs → Inside Taken
+free_inside legacy s t k i ds =
+    if is_dropped_by k ds then inside_dropped_by legacy k ds (outside_class t)
+    else if same_kind k kind.ClassBody then inside.Alike (free_around s t i)
+    else if legacy && is_class k then inside.ByField (seen_from (free_around s t i) k ds)
+    else inside.Alike (outside_class (free_around s t i))
+
+-- each such node; the state has what declarations around have
+abbrev pub sought : Bool → Scoped → (ℕ → Bool) → Sought Taken Capture
+sought legacy s ks =
+    record { at = free_at legacy ks; inside = free_inside legacy s; in_field = λ t k r. Some (free_in t r) }
+
 -- The first of a whole tree, in which that is kept.
-abbrev pub free : Scoped → (ℕ → Bool) → Doc → Option Capture
-free s ks d = first_in (sought s ks) d nothing_taken
+abbrev pub free : Bool → Scoped → (ℕ → Bool) → Doc → Option Capture
+free legacy s ks d = first_in (sought legacy s ks) d nothing_taken

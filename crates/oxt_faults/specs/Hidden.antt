@@ -3,7 +3,7 @@ use Rattle.std.specs.Prelude.{ℕ, List, Bool, false, not, ◌&&◌, ◌==◌, n
 use Rattle.std.specs.Int.RustNames.{bit_and}
 use Rattle.oxt_faults.specs.Captured.{Capture, is_value_use, symbol_at}
 use Rattle.oxt_faults.specs.Marks.{use_of}
-use Rattle.oxt_faults.specs.Silent.{is_silent}
+use Rattle.oxt_faults.specs.Silent.{is_silent, silent_inside}
 use Rattle.oxt_faults.specs.declared.around.ClassScopes.{ClassScopes}
 use Rattle.oxt_faults.specs.declared.reach.Reach.TheVariants as reach
 use Rattle.oxt_grammar.specs.declared.kind.Kind.{Kind}
@@ -68,20 +68,20 @@ hidden_at s x k i ds =
 
 -- ---- trees
 
--- each such name outside of types and of what is erased
-abbrev pub sought : Scoped → ClassScopes → Sought (Unit {0}) Capture
-sought s x =
+-- each such name outside of types and of what is erased; the flag says that decorators have their older meaning
+abbrev pub sought : Bool → Scoped → ClassScopes → Sought (Unit {0}) Capture
+sought legacy s x =
     record {
       at = λ u k i ds. if is_silent reach.Level k ds then None else hidden_at s x k i ds;
-      inside = λ u k i ds. if is_silent reach.Level k ds then inside.Skipped else inside.Alike u;
+      inside = λ u k i ds. if is_silent reach.Level k ds then silent_inside legacy reach.Level k ds tt else inside.Alike u;
       in_field = λ u k r. Some u;
     }
 
 -- the first of a document
-abbrev pub hidden_name : Scoped → ClassScopes → Doc → Option Capture
-hidden_name s x d = first_in (sought s x) d tt
+abbrev pub hidden_name : Bool → Scoped → ClassScopes → Doc → Option Capture
+hidden_name legacy s x d = first_in (sought legacy s x) d tt
 
 -- the same, where the class has a constructor
-abbrev pub hidden_by : Scoped → Option ClassScopes → Doc → Option Capture
-hidden_by s None d = None
-hidden_by s (Some x) d = hidden_name s x d
+abbrev pub hidden_by : Bool → Scoped → Option ClassScopes → Doc → Option Capture
+hidden_by legacy s None d = None
+hidden_by legacy s (Some x) d = hidden_name legacy s x d

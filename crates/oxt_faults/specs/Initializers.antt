@@ -12,7 +12,7 @@ use Rattle.oxt_grammar.specs.declared.kind.Kind.{Kind}
 use Rattle.oxt_grammar.specs.declared.kind.Kind.TheVariants as kind
 use Rattle.oxt_tree.specs.Doc.{Doc, Docs}
 use Rattle.oxt_tree.specs.Fields.{named}
-use Rattle.oxt_unbuilt.specs.Dropped.{is_dropped_by}
+use Rattle.oxt_unbuilt.specs.Dropped.{inside_dropped_by, is_dropped_by}
 
 -- ---- one member
 
@@ -30,17 +30,17 @@ abbrev pub is_written : Scoped → Kind → ℕ → Bool
 is_written s k i = same_kind k kind.TSEnumMember && not (is_constant s i)
 
 -- the first word at the level of the initializer of such a member
-abbrev pub own_word : Scoped → Kind → ℕ → Docs → Option LevelWordAt
-own_word s k i ds = if is_written s k i then level_word (named (codes "initializer") k ds) else None
+abbrev pub own_word : Bool → Scoped → Kind → ℕ → Docs → Option LevelWordAt
+own_word legacy s k i ds = if is_written s k i then level_word legacy (named (codes "initializer") k ds) else None
 
 -- ---- all members
 
--- outside what is erased, that word of each member
-abbrev pub sought : Scoped → Sought (Unit {0}) LevelWordAt
-sought s =
+-- outside what is erased, that word of each member; the flag says that decorators have their older meaning
+abbrev pub sought : Bool → Scoped → Sought (Unit {0}) LevelWordAt
+sought legacy s =
     record {
-      at = λ u k i ds. if is_dropped_by k ds then None else own_word s k i ds;
-      inside = λ u k i ds. if is_dropped_by k ds then inside.Skipped else inside.Alike u;
+      at = λ u k i ds. if is_dropped_by k ds then None else own_word legacy s k i ds;
+      inside = λ u k i ds. if is_dropped_by k ds then inside_dropped_by legacy k ds tt else inside.Alike u;
       in_field = λ u k r. Some u;
     }
 
@@ -55,5 +55,5 @@ least ws = fold lesser None ws
 
 -- The word of the least number at the level of an initializer that stays as written, of a whole tree. A word may be at
 -- the level of several, where one holds another: it is the same node.
-abbrev pub initializer_word : Scoped → Doc → Option LevelWordAt
-initializer_word s d = least (all_in (sought s) d tt)
+abbrev pub initializer_word : Bool → Scoped → Doc → Option LevelWordAt
+initializer_word legacy s d = least (all_in (sought legacy s) d tt)

@@ -1,7 +1,7 @@
 -- The first word at the level of a piece of code: one that would mean something else in a function of its own.
 use Rattle.std.specs.Prelude.{ℕ, Bool, false, ◌&&◌, ◌||◌, if◌then◌else◌, Option, None, Some, option_map, codes}
 use Rattle.oxt_faults.specs.Reaches.{reach_of}
-use Rattle.oxt_faults.specs.Silent.{is_silent}
+use Rattle.oxt_faults.specs.Silent.{is_silent, silent_inside}
 use Rattle.oxt_faults.specs.Words.{changes, word_at}
 use Rattle.oxt_faults.specs.declared.level.Around.{Around}
 use Rattle.oxt_faults.specs.declared.level.FoundWord.{FoundWord}
@@ -52,27 +52,28 @@ at_level = record { reach = reach.Level; owns_await = false }
 abbrev pub word_here : Destination → Around → Kind → ℕ → Docs → Option LevelWordAt
 word_here m a k i ds = if is_silent a.reach k ds then None else found_at m a.owns_await k i ds
 
-abbrev pub word_inside : Around → Kind → ℕ → Docs → Inside Around
-word_inside a k i ds =
-    if is_silent a.reach k ds then inside.Skipped
+abbrev pub word_inside : Bool → Around → Kind → ℕ → Docs → Inside Around
+word_inside legacy a k i ds =
+    if is_silent a.reach k ds then silent_inside legacy a.reach k ds a
     else inside.ByField (record { reach = a.reach; owns_await = owns_await a.owns_await k ds })
 
 abbrev pub around_field : Around → Kind → Field → Option Around
 around_field a k r = Some (record { reach = reach_of a.reach k r; owns_await = a.owns_await })
 
--- each word that is no erased code, no type, and reached at the level, and that would mean something else there
-abbrev pub sought : Destination → Sought Around LevelWordAt
-sought m = record { at = word_here m; inside = word_inside; in_field = around_field }
+-- Each word that is no erased code, no type, and reached at the level, and that would mean something else there; the flag
+-- says that decorators have their older meaning.
+abbrev pub sought : Bool → Destination → Sought Around LevelWordAt
+sought legacy m = record { at = word_here m; inside = word_inside legacy; in_field = around_field }
 
 -- The first at the level of a document that would mean something else where the document goes: a node comes before those
 -- in it.
-abbrev pub moved_word : Destination → Doc → Option LevelWordAt
-moved_word m d = first_in (sought m) d at_level
+abbrev pub moved_word : Bool → Destination → Doc → Option LevelWordAt
+moved_word legacy m d = first_in (sought legacy m) d at_level
 
 -- the first of all words at the level of a document
-abbrev pub level_word : Doc → Option LevelWordAt
-level_word d = moved_word destination.Deeper d
+abbrev pub level_word : Bool → Doc → Option LevelWordAt
+level_word legacy d = moved_word legacy destination.Deeper d
 
 -- the first at the level of documents that stand one after the other, as those of a body
-abbrev pub level_words : Docs → Option LevelWordAt
-level_words ds = first_among (sought destination.Deeper) ds at_level
+abbrev pub level_words : Bool → Docs → Option LevelWordAt
+level_words legacy ds = first_among (sought legacy destination.Deeper) ds at_level

@@ -9,6 +9,7 @@ pub mod Marks
 pub mod Misplaced
 pub mod Moved
 pub mod Namespaces
+pub mod PrivateIns
 pub mod Reaches
 pub mod Redeclared
 pub mod Seats

@@ -6,7 +6,7 @@ use Rattle.oxt_scoping.specs.Scoped.{Scoped}
 use Rattle.oxt_search.specs.Sought.{Sought}
 use Rattle.oxt_search.specs.declared.search.Inside.TheVariants as inside
 use Rattle.oxt_names.specs.declared.ids.SymbolId.{SymbolId}
-use Rattle.oxt_unbuilt.specs.Dropped.{is_dropped_by}
+use Rattle.oxt_unbuilt.specs.Dropped.{inside_dropped_by, is_dropped_by}
 
 -- of each symbol whether a declaration of it emits code
 abbrev pub emitting_symbols : Scoped → List Bool
@@ -34,10 +34,10 @@ abbrev pub marked_at : Scoped → List Bool → ℕ → Option Capture
 marked_at s bs n = marked_as s bs n (value_meant s n)
 
 -- outside what is erased, each node that means a marked symbol
-abbrev pub marked : Scoped → List Bool → Sought (Unit {0}) Capture
-marked s bs =
+abbrev pub marked : Bool → Scoped → List Bool → Sought (Unit {0}) Capture
+marked legacy s bs =
     record {
       at = λ u k i ds. if is_dropped_by k ds then None else marked_at s bs i;
-      inside = λ u k i ds. if is_dropped_by k ds then inside.Skipped else inside.Alike u;
+      inside = λ u k i ds. if is_dropped_by k ds then inside_dropped_by legacy k ds tt else inside.Alike u;
       in_field = λ u k r. Some u;
     }

@@ -14,7 +14,9 @@ use Rattle.oxt_fields.specs.Fates.{fate_by, hoists_private, is_static}
 use Rattle.oxt_fields.specs.Rules.{Rules}
 use Rattle.oxt_fields.specs.declared.fate.Fate.{Fate}
 use Rattle.oxt_fields.specs.declared.fate.Fate.TheVariants as fates
+use Rattle.oxt_grammar.specs.Places.{same_kind}
 use Rattle.oxt_grammar.specs.declared.kind.Kind.{Kind}
+use Rattle.oxt_grammar.specs.declared.kind.Kind.TheVariants as kind
 use Rattle.oxt_names.specs.declared.ids.SymbolId.{SymbolId}
 use Rattle.oxt_options.specs.Facts.{is_in}
 use Rattle.oxt_scoping.specs.Scoped.{Scoped}
@@ -23,35 +25,38 @@ use Rattle.oxt_search.specs.Sought.{Sought}
 use Rattle.oxt_search.specs.declared.search.Inside.TheVariants as inside
 use Rattle.oxt_tree.specs.Doc.{Doc, Docs}
 use Rattle.oxt_tree.specs.Fields.{named}
-use Rattle.oxt_unbuilt.specs.Dropped.{is_dropped_by}
+use Rattle.oxt_unbuilt.specs.Dropped.{inside_dropped_by, is_dropped_by}
 
 -- ---- fields
 
 -- In code of a static field that moves into a static block, a word that would mean something else there. In code of another
--- field, which moves into the constructor, such a word or a name that the constructor declares.
-abbrev pub captured_in : Scoped → ClassAround → Bool → Doc → Option Capture
-captured_in s a st d =
-    if st then option_map of_word (moved_word destination.StaticBlock d)
-    else earlier (option_map of_word (moved_word destination.Constructor d)) (hidden_by s a.scopes d)
+-- field, which moves into the constructor, such a word or a name that the constructor declares. The flag says that
+-- decorators have their older meaning.
+abbrev pub captured_in : Bool → Scoped → ClassAround → Bool → Doc → Option Capture
+captured_in legacy s a st d =
+    if st then option_map of_word (moved_word legacy destination.StaticBlock d)
+    else earlier (option_map of_word (moved_word legacy destination.Constructor d)) (hidden_by legacy s a.scopes d)
 
--- the key of a field that moves is written where the field is set, if it is an expression and no temporary keeps it
+-- The key of an element that moves is written where that is set, if it is a field, its key is an expression, and no temporary
+-- keeps that: that of an `accessor` stays with what becomes of it.
 abbrev pub moves_key : Bool → Kind → Docs → Bool
-moves_key has_temporary k ds = not has_temporary && has_expression k ds
+moves_key has_temporary k ds = same_kind k kind.PropertyDefinition && (not has_temporary && has_expression k ds)
 
-abbrev pub key_capture : Scoped → ClassAround → Bool → Kind → Docs → Option Capture
-key_capture s a has_temporary k ds =
-    if moves_key has_temporary k ds then captured_in s a (is_static k ds) (named (codes "key") k ds) else None
+abbrev pub key_capture : Bool → Scoped → ClassAround → Bool → Kind → Docs → Option Capture
+key_capture legacy s a has_temporary k ds =
+    if moves_key has_temporary k ds then captured_in legacy s a (is_static k ds) (named (codes "key") k ds) else None
 
 -- what would be captured in the value of a field, and in its key where that moves with it
-abbrev pub capture_by : Scoped → ClassAround → Kind → Docs → Fate → Option Capture
-capture_by s a k ds fates.Stays = None
-capture_by s a k ds fates.Goes = None
-capture_by s a k ds fates.LeavesKey = None
-capture_by s a k ds (fates.Moves stays has_temporary) =
-    earlier (captured_in s a (is_static k ds) (named (codes "value") k ds)) (key_capture s a has_temporary k ds)
+abbrev pub capture_by : Bool → Scoped → ClassAround → Kind → Docs → Fate → Option Capture
+capture_by legacy s a k ds fates.Stays = None
+capture_by legacy s a k ds fates.Goes = None
+capture_by legacy s a k ds fates.LeavesKey = None
+capture_by legacy s a k ds (fates.Moves stays has_temporary) =
+    earlier
+    (captured_in legacy s a (is_static k ds) (named (codes "value") k ds)) (key_capture legacy s a has_temporary k ds)
 
 abbrev pub field_capture : Scoped → Rules → ClassAround → Kind → Docs → Option Capture
-field_capture s r a k ds = capture_by s a k ds (fate_by r a.hoists k ds)
+field_capture s r a k ds = capture_by r.legacy s a k ds (fate_by r a.hoists k ds)
 
 -- ---- classes
 
@@ -71,7 +76,7 @@ abbrev pub sought : Scoped → Rules → (Option SymbolId → Bool) → Sought C
 sought s r g =
     record {
       at = λ a k i ds. if is_dropped_by k ds then None else captured_at s r g a k ds;
-      inside = λ a k i ds. if is_dropped_by k ds then inside.Skipped else inside.Alike (class_around s a k i ds);
+      inside = λ a k i ds. if is_dropped_by k ds then inside_dropped_by r.legacy k ds a else inside.Alike (class_around s a k i ds);
       in_field = λ a k f. Some a;
     }
 

@@ -1,5 +1,5 @@
 -- Nodes in which nothing stands at the level.
-use Rattle.std.specs.Prelude.{List, [], ◌∷◌, Bool, true, false, ◌&&◌, ◌||◌}
+use Rattle.std.specs.Prelude.{List, [], ◌∷◌, Bool, true, false, ◌&&◌, ◌||◌, if◌then◌else◌}
 use Rattle.std.specs.List.{list_any}
 use Rattle.oxt_faults.specs.declared.reach.Reach.{Reach}
 use Rattle.oxt_faults.specs.declared.reach.Reach.TheVariants as reach
@@ -8,9 +8,11 @@ use Rattle.oxt_grammar.specs.Places.{kind_in, same_kind}
 use Rattle.oxt_grammar.specs.declared.category.Category.TheVariants as category
 use Rattle.oxt_grammar.specs.declared.kind.Kind.{Kind}
 use Rattle.oxt_grammar.specs.declared.kind.Kind.TheVariants as kind
+use Rattle.oxt_search.specs.declared.search.Inside.{Inside}
+use Rattle.oxt_search.specs.declared.search.Inside.TheVariants as inside
 use Rattle.oxt_tree.specs.Doc.{Docs}
 use Rattle.oxt_tree.specs.Syntax.{is_type_only}
-use Rattle.oxt_unbuilt.specs.Dropped.{is_dropped_by}
+use Rattle.oxt_unbuilt.specs.Dropped.{inside_dropped_by, is_dropped_by}
 
 -- what is reached so is left out
 abbrev pub is_hidden : Reach → Bool
@@ -37,3 +39,8 @@ is_type k =
 -- neither the node nor anything in it stands at the level: it is out of reach, erased, or a type
 abbrev pub is_silent : Reach → Kind → Docs → Bool
 is_silent r k ds = is_hidden r || (is_erased_code k ds || is_type k)
+
+-- What a search reaches inside such a node, in the state `s`: nothing, but for the decorators of a field that is only
+-- declared, where the flag says that decorators have their older meaning.
+abbrev pub silent_inside : {S : Type 0} → Bool → Reach → Kind → Docs → S → Inside S
+silent_inside legacy r k ds s = if is_hidden r then inside.Skipped else inside_dropped_by legacy k ds s

@@ -39,7 +39,7 @@ waits (fates.Moves stays has_temporary) = has_temporary
 -- the first word at the level of a key that waits
 abbrev pub waiting_word : Rules → Bool → Kind → Docs → Option Capture
 waiting_word r h k ds =
-    if waits (fate_by r h k ds) then option_map of_word (level_word (named (codes "key") k ds)) else None
+    if waits (fate_by r h k ds) then option_map of_word (level_word r.legacy (named (codes "key") k ds)) else None
 
 -- the word of what waits behind an element, where that is the word of what waits before it
 abbrev pub word_behind : Rules → Bool → Option Capture → Doc → Option Capture

@@ -19,7 +19,7 @@ use oxt_search::search::{Inside, Search, Visit};
 use oxt_tree::ids::{NodeId, OutOfMemory};
 use oxt_tree::name::Name;
 use oxt_tree::tree::Node;
-use oxt_unbuilt::dropped::is_dropped;
+use oxt_unbuilt::dropped::{inside_dropped, is_dropped};
 use std::alloc::Global;
 
 /// A name that would change its owner.
@@ -33,39 +33,48 @@ pub struct CapturedName<'a> {
 
 /// The first name in the program that would change its owner, outside what is erased: one that is used
 /// as a value and means a symbol of which no declaration emits code, but for those whose names are left out, while a scope
-/// further out binds the same name to a symbol that does.
+/// further out binds the same name to a symbol that does. `legacy` says that decorators have their older meaning.
 ///
 /// # Errors
 ///
 /// Fails only where memory runs out.
 pub fn first_captured<'a>(
     alloc: Global,
+    legacy: bool,
     program: &Node,
     scoping: &'a Scoping,
     left_out: &NodeList,
 ) -> Result<Option<CapturedName<'a>>, OutOfMemory>
     ensures { IfOk result (λ found. option_map capture_view found
-        ≡ captured scoping.now (is_in left_out.now) (node_doc program.now)) }
+        ≡ captured legacy scoping.now (is_in left_out.now) (node_doc program.now)) }
 {
     let marks = captured_symbols(alloc, scoping, left_out)?;
-    Ok(first_marked(program, scoping, marks.as_slice()))
+    Ok(first_marked(legacy, program, scoping, marks.as_slice()))
 }
 
 /// The first name in the program that means a marked symbol.
 fn first_marked<'a>(
+    legacy: bool,
     program: &Node,
     scoping: &'a Scoping,
     marks: &[bool],
 ) -> Option<CapturedName<'a>>
     ensures { option_map capture_view result
-        ≡ first_in (marked scoping.now marks.now) (node_doc program.now) tt }
+        ≡ first_in (marked legacy scoping.now marks.now) (node_doc program.now) tt }
 {
-    first_in(&Marked { scoping, marks }, program, ())
+    let names = Marked {
+        legacy,
+        scoping,
+        marks,
+    };
+    first_in(&names, program, ())
 }
 
 /// The search for such names.
 #[derive(Clone, Copy)]
 struct Marked<'a, 'b> {
+    /// Decorators have their older meaning.
+    legacy: bool,
     /// What the names mean.
     scoping: &'a Scoping,
     /// Of each symbol whether it is marked.
@@ -81,13 +90,13 @@ impl<'a, 'b> Search for Marked<'a, 'b> {
 
     ghost view = { capture_view };
 
-    ghost sought = { λ search. marked search.scoping.now search.marks.now };
+    ghost sought = { λ search. marked search.legacy search.scoping.now search.marks.now };
 
     fn visit(&self, node: &Node, _state: ()) -> Visit<CapturedName<'a>, ()> {
         if is_dropped(node) {
             Visit {
                 found: None,
-                inside: Inside::Skipped,
+                inside: inside_dropped(self.legacy, node, ()),
             }
         } else {
             Visit {

@@ -1,11 +1,15 @@
-//! Free names that lowered code has: `module` and `require`.
+//! Names that lowered code has of its own: `module`, `require` and `babelHelpers`, which are free, and `value`.
 ghost use Rattle.std.specs.Prelude.{◌≡◌, ◌<◌, codes, length, option_map};
 ghost use Rattle.oxt_faults.specs.Captured.{Capture, emits_at, is_emitted, symbol_at};
-ghost use Rattle.oxt_faults.specs.Free.{free, free_around, free_at, free_view, in_scope, nothing_taken, sought, text_of_free, word_at};
+ghost use Rattle.oxt_faults.specs.Free.{free, free_around, free_at, free_in, free_inside, free_view, has_call, in_scope, is_static_accessor, is_value_class, made_word, nothing_taken, outside_class, seen_from, sought, text_of_free, word_at};
+ghost use Rattle.oxt_grammar.specs.Field.{row_view};
 ghost use Rattle.oxt_options.specs.Facts.{is_in};
 ghost use Rattle.oxt_tree.specs.View.{docs_in, node_doc};
 
+use crate::around::is_class;
 use crate::outside::emits;
+use oxt_decorated::calls::{is_called, is_decorated};
+use oxt_grammar::field::Field;
 use oxt_grammar::holds::Row;
 use oxt_grammar::kind::Kind;
 use oxt_modules::alias::is_required;
@@ -15,16 +19,20 @@ use oxt_scoping::scoping::Scoping;
 use oxt_search::first::first_in;
 use oxt_search::search::{Inside, Search, Visit};
 use oxt_tree::ids::NodeId;
-use oxt_tree::tree::Node;
-use oxt_unbuilt::dropped::is_dropped;
+use oxt_tree::tree::{Node, Part};
+use oxt_unbuilt::dropped::{inside_dropped, is_dropped};
 
-/// A free name that lowered code has.
+/// A name that lowered code has of its own.
 #[derive(Clone, Copy, Debug, PartialEq, Eq)]
 pub enum FreeWord {
     /// `module`, for `export = e`.
     Module,
     /// `require`, for `import a = require("m")`.
     Require,
+    /// `babelHelpers`, for the call of a decorated element of a class, or of a decorated class.
+    BabelHelpers,
+    /// `value`, for what is set to a static `accessor`.
+    Value,
 }
 
 impl FreeWord {
@@ -35,11 +43,13 @@ impl FreeWord {
         match self {
             FreeWord::Module => "module",
             FreeWord::Require => "require",
+            FreeWord::BabelHelpers => "babelHelpers",
+            FreeWord::Value => "value",
         }
     }
 }
 
-/// A free name that would mean a declaration.
+/// Such a name that would mean a declaration, or would be meant in place of one.
 #[derive(Clone, Copy, Debug)]
 pub struct FoundFree {
     /// The node that it is made for.
@@ -48,21 +58,40 @@ pub struct FoundFree {
     pub word: FreeWord,
 }
 
-/// Which of these names a declaration that emits code has, in a scope around.
+/// Which of these names a declaration that emits code has, in a scope around, and what an element has to know of the class
+/// around it.
 #[derive(Clone, Copy, Debug)]
 pub struct Taken {
     /// `module`.
     pub module: bool,
     /// `require`.
     pub require: bool,
+    /// `babelHelpers`.
+    pub helpers: bool,
+    /// The node is an element of a class declaration, or the body of one, where decorators have their older meaning.
+    pub is_called: bool,
+    /// The node is an element of a class of the name `value`, or the body of one, where they have that.
+    pub is_value: bool,
 }
 
-/// The first node outside erased code for which a free name is made that a declaration that emits code has, in a scope
-/// around it: an `export =`, or an `import =` of a module that is kept.
-pub fn first_free(program: &Node, scoping: &Scoping, kept: &NodeList) -> Option<FoundFree>
-    ensures { option_map free_view result ≡ free scoping.now (is_in kept.now) (node_doc program.now) }
+/// The first node outside erased code for which a name is made that would mean a declaration. An `export =`, an `import =` of
+/// a module that is kept and, where decorators have their older meaning, as `legacy` says, a decorated element of a class
+/// declaration and a decorated class have a free name, and it is in danger where a declaration around that emits code has it.
+/// A static `accessor` has the name `value`, which the class may have that is written there.
+pub fn first_free(
+    legacy: bool,
+    program: &Node,
+    scoping: &Scoping,
+    kept: &NodeList,
+) -> Option<FoundFree>
+    ensures { option_map free_view result ≡ free legacy scoping.now (is_in kept.now) (node_doc program.now) }
 {
-    first_in(&Frees { scoping, kept }, program, nothing_taken())
+    let frees = Frees {
+        legacy,
+        scoping,
+        kept,
+    };
+    first_in(&frees, program, nothing_taken())
 }
 
 /// No declaration has one.
@@ -72,12 +101,17 @@ fn nothing_taken() -> Taken
     Taken {
         module: false,
         require: false,
+        helpers: false,
+        is_called: false,
+        is_value: false,
     }
 }
 
 /// The search for such nodes.
 #[derive(Clone, Copy)]
 struct Frees<'a> {
+    /// Decorators have their older meaning.
+    legacy: bool,
     /// What scopes declare.
     scoping: &'a Scoping,
     /// What is kept.
@@ -93,51 +127,140 @@ impl<'a> Search for Frees<'a> {
 
     ghost view = { free_view };
 
-    ghost sought = { λ frees. sought frees.scoping.now (is_in frees.kept.now) };
+    ghost sought = { λ frees. sought frees.legacy frees.scoping.now (is_in frees.kept.now) };
 
     fn visit(&self, node: &Node, taken: Taken) -> Visit<FoundFree, Taken> {
-        if is_dropped(node) {
-            Visit {
-                found: None,
-                inside: Inside::Skipped,
-            }
-        } else {
-            Visit {
-                found: free_at(self.kept, taken, node),
-                inside: Inside::Alike(taken_around(self.scoping, taken, node)),
-            }
+        Visit {
+            found: free_at(self.legacy, self.kept, taken, node),
+            inside: free_inside(self.legacy, self.scoping, taken, node),
         }
     }
 
-    fn in_field(&self, taken: Taken, _kind: Kind, _row: &Row) -> Option<Taken> {
-        Some(taken)
+    fn in_field(&self, taken: Taken, _kind: Kind, row: &Row) -> Option<Taken> {
+        Some(free_in(taken, row))
     }
 }
 
-/// The node, if a free name is made for it that is taken.
-fn free_at(kept: &NodeList, taken: Taken, node: &Node) -> Option<FoundFree>
-    ensures { option_map free_view result
-        ≡ free_at (is_in kept.now) taken node.now.kind node.now.id.0 (docs_in node.now.parts.items) }
+/// How the search goes on inside a node: what is in a class is told apart by its fields.
+fn free_inside(legacy: bool, scoping: &Scoping, taken: Taken, node: &Node) -> Inside<Taken>
+    ensures { result
+        ≡ free_inside legacy scoping.now taken node.now.kind node.now.id.0 (docs_in node.now.parts.items) }
 {
-    let word = word_at(kept, taken, node)?;
+    if is_dropped(node) {
+        return inside_dropped(legacy, node, outside_class(taken));
+    }
+    let around = taken_around(scoping, taken, node);
+    if node.kind.is(Kind::ClassBody) {
+        Inside::Alike(around)
+    } else if legacy && is_class(node.kind) {
+        Inside::ByField(seen_from(around, node))
+    } else {
+        Inside::Alike(outside_class(around))
+    }
+}
+
+/// What is known in a field of a class: its elements alone have to know of it.
+fn free_in(taken: Taken, row: &Row) -> Taken
+    ensures { result ≡ free_in taken (row_view row.now) }
+{
+    if row.is(Field::Body) {
+        taken
+    } else {
+        outside_class(taken)
+    }
+}
+
+/// The same, of no element of a class.
+fn outside_class(taken: Taken) -> Taken
+    ensures { result ≡ outside_class taken }
+{
+    Taken {
+        module: taken.module,
+        require: taken.require,
+        helpers: taken.helpers,
+        is_called: false,
+        is_value: false,
+    }
+}
+
+/// The same, of an element of the class.
+fn seen_from(taken: Taken, class: &Node) -> Taken
+    ensures { result ≡ seen_from taken class.now.kind (docs_in class.now.parts.items) }
+{
+    Taken {
+        module: taken.module,
+        require: taken.require,
+        helpers: taken.helpers,
+        is_called: class.kind.is(Kind::ClassDeclaration),
+        is_value: is_value_class(class),
+    }
+}
+
+/// Whether the name of the class is `value`.
+fn is_value_class(class: &Node) -> bool
+    ensures { result ≡ is_value_class class.now.kind (docs_in class.now.parts.items) }
+{
+    match class.field(Field::Id) {
+        Some(Part::Node(name)) => name.holds_text(Field::Name, "value"),
+        _ => false,
+    }
+}
+
+/// The node, if a name is made for it that is in danger.
+fn free_at(legacy: bool, kept: &NodeList, taken: Taken, node: &Node) -> Option<FoundFree>
+    ensures { option_map free_view result
+        ≡ free_at legacy (is_in kept.now) taken node.now.kind node.now.id.0 (docs_in node.now.parts.items) }
+{
+    let word = word_at(legacy, kept, taken, node)?;
     Some(FoundFree {
         node: node.id,
         word,
     })
 }
 
-/// The free name that is made for the node, if it is taken.
-fn word_at(kept: &NodeList, taken: Taken, node: &Node) -> Option<FreeWord>
+/// The name that is made for the node, if it is in danger.
+fn word_at(legacy: bool, kept: &NodeList, taken: Taken, node: &Node) -> Option<FreeWord>
     ensures { result
-        ≡ word_at (is_in kept.now) taken node.now.kind node.now.id.0 (docs_in node.now.parts.items) }
+        ≡ word_at legacy (is_in kept.now) taken node.now.kind node.now.id.0 (docs_in node.now.parts.items) }
+{
+    if taken.helpers && has_call(legacy, taken, node) {
+        Some(FreeWord::BabelHelpers)
+    } else if is_dropped(node) {
+        None
+    } else {
+        made_word(kept, taken, node)
+    }
+}
+
+/// Whether a call stands behind the class for the node: it is a decorated element of a class declaration, or a decorated class
+/// that is not erased.
+fn has_call(legacy: bool, taken: Taken, node: &Node) -> bool
+    ensures { result ≡ has_call legacy taken node.now.kind (docs_in node.now.parts.items) }
+{
+    legacy && ((taken.is_called && is_called(node)) || (is_decorated(node) && !is_dropped(node)))
+}
+
+/// The same of what is not erased, but for the name of such a call.
+fn made_word(kept: &NodeList, taken: Taken, node: &Node) -> Option<FreeWord>
+    ensures { result
+        ≡ made_word (is_in kept.now) taken node.now.kind node.now.id.0 (docs_in node.now.parts.items) }
 {
     if taken.module && node.kind.is(Kind::TSExportAssignment) {
         Some(FreeWord::Module)
     } else if taken.require && (is_required(node) && kept.has(node.id)) {
         Some(FreeWord::Require)
+    } else if taken.is_value && is_static_accessor(node) {
+        Some(FreeWord::Value)
     } else {
         None
     }
+}
+
+/// Whether the node is a static `accessor`.
+fn is_static_accessor(node: &Node) -> bool
+    ensures { result ≡ is_static_accessor node.now.kind (docs_in node.now.parts.items) }
+{
+    node.kind.is(Kind::AccessorProperty) && node.flag(Field::Static)
 }
 
 /// Which of the names are taken inside the node, where these are around it.
@@ -148,6 +271,9 @@ fn taken_around(scoping: &Scoping, taken: Taken, node: &Node) -> Taken
         Some(scope) => Taken {
             module: taken.module || is_taken_in(scoping, scope, "module"),
             require: taken.require || is_taken_in(scoping, scope, "require"),
+            helpers: taken.helpers || is_taken_in(scoping, scope, "babelHelpers"),
+            is_called: taken.is_called,
+            is_value: taken.is_value,
         },
         None => taken,
     }

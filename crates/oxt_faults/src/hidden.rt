@@ -9,7 +9,7 @@ ghost use Rattle.oxt_tree.specs.View.{doc_or_nil, docs_in, node_doc};
 use crate::around::ClassScopes;
 use crate::earliest::MovedName;
 use crate::reach::Reach;
-use crate::silent::is_silent;
+use crate::silent::{is_silent, silent_inside};
 use bitflags::Flags;
 use oxt_grammar::field::Field;
 use oxt_grammar::holds::Row;
@@ -24,29 +24,35 @@ use oxt_tree::ids::NodeId;
 use oxt_tree::tree::{Node, Part};
 
 /// The first name in the part, outside of types and of what is erased, that comes from outside the class with these scopes
-/// while its constructor declares it as more than a type.
+/// while its constructor declares it as more than a type. `legacy` says that decorators have their older meaning.
 pub fn first_hidden<'a>(
+    legacy: bool,
     scoping: &'a Scoping,
     scopes: Option<ClassScopes>,
     part: Option<&Part>,
 ) -> Option<MovedName<'a>>
-    ensures { option_map moved_view result ≡ hidden_by scoping.now scopes (doc_or_nil part.entry) }
+    ensures { option_map moved_view result ≡ hidden_by legacy scoping.now scopes (doc_or_nil part.entry) }
 {
     match scopes {
-        Some(scopes) => hidden_in(scoping, scopes, part),
+        Some(scopes) => hidden_in(legacy, scoping, scopes, part),
         None => None,
     }
 }
 
 /// The same, where the class has a constructor.
 fn hidden_in<'a>(
+    legacy: bool,
     scoping: &'a Scoping,
     scopes: ClassScopes,
     part: Option<&Part>,
 ) -> Option<MovedName<'a>>
-    ensures { option_map moved_view result ≡ hidden_name scoping.now scopes (doc_or_nil part.entry) }
+    ensures { option_map moved_view result ≡ hidden_name legacy scoping.now scopes (doc_or_nil part.entry) }
 {
-    let names = HiddenNames { scoping, scopes };
+    let names = HiddenNames {
+        legacy,
+        scoping,
+        scopes,
+    };
     match part {
         Some(Part::Node(node)) => first_in(&names, node, ()),
         Some(Part::List(parts)) => first_among(&names, parts.as_slice(), ()),
@@ -57,6 +63,8 @@ fn hidden_in<'a>(
 /// The search for such names.
 #[derive(Clone, Copy)]
 struct HiddenNames<'a> {
+    /// Decorators have their older meaning.
+    legacy: bool,
     /// What the names mean.
     scoping: &'a Scoping,
     /// The scopes of the class.
@@ -72,13 +80,13 @@ impl<'a> Search for HiddenNames<'a> {
 
     ghost view = { moved_view };
 
-    ghost sought = { λ search. sought search.scoping.now search.scopes };
+    ghost sought = { λ search. sought search.legacy search.scoping.now search.scopes };
 
     fn visit(&self, node: &Node, _state: ()) -> Visit<MovedName<'a>, ()> {
         if is_silent(Reach::Level, node) {
             Visit {
                 found: None,
-                inside: Inside::Skipped,
+                inside: silent_inside(self.legacy, Reach::Level, node, ()),
             }
         } else {
             Visit {

@@ -13,24 +13,26 @@ use oxt_search::all::all_in;
 use oxt_search::search::{Inside, Search, Visit};
 use oxt_tree::ids::{NodeId, OutOfMemory};
 use oxt_tree::tree::Node;
-use oxt_unbuilt::dropped::is_dropped;
+use oxt_unbuilt::dropped::{inside_dropped, is_dropped};
 use std::alloc::Global;
 
 /// The word of the least number, outside what is erased, that stands at the level of the initializer of a member of an
-/// enum that has no constant: the initializer goes into a function, where the word would mean something else.
+/// enum that has no constant: the initializer goes into a function, where the word would mean something else. `legacy` says
+/// that decorators have their older meaning.
 ///
 /// # Errors
 ///
 /// Fails only where memory runs out.
 pub fn first_initializer_word(
     alloc: Global,
+    legacy: bool,
     program: &Node,
     scoping: &Scoping,
 ) -> Result<Option<FoundWord>, OutOfMemory>
     ensures { IfOk result (λ found. option_map found_view found
-        ≡ initializer_word scoping.now (node_doc program.now)) }
+        ≡ initializer_word legacy scoping.now (node_doc program.now)) }
 {
-    let words = all_in(alloc, &Initializers { scoping }, program, ())?;
+    let words = all_in(alloc, &Initializers { legacy, scoping }, program, ())?;
     Ok(least(words.as_slice()))
 }
 
@@ -65,6 +67,8 @@ fn lesser(least: Option<FoundWord>, word: FoundWord) -> Option<FoundWord>
 /// The search for the first word of each such initializer.
 #[derive(Clone, Copy)]
 struct Initializers<'a> {
+    /// Decorators have their older meaning.
+    legacy: bool,
     /// The constants of the members.
     scoping: &'a Scoping,
 }
@@ -78,17 +82,17 @@ impl<'a> Search for Initializers<'a> {
 
     ghost view = { found_view };
 
-    ghost sought = { λ search. sought search.scoping.now };
+    ghost sought = { λ search. sought search.legacy search.scoping.now };
 
     fn visit(&self, node: &Node, _state: ()) -> Visit<FoundWord, ()> {
         if is_dropped(node) {
             Visit {
                 found: None,
-                inside: Inside::Skipped,
+                inside: inside_dropped(self.legacy, node, ()),
             }
         } else {
             Visit {
-                found: own_word(self.scoping, node),
+                found: own_word(self.legacy, self.scoping, node),
                 inside: Inside::Alike(()),
             }
         }
@@ -100,12 +104,12 @@ impl<'a> Search for Initializers<'a> {
 }
 
 /// The first word at the level of the initializer of the node, if it is a member whose initializer stays as written.
-fn own_word(scoping: &Scoping, node: &Node) -> Option<FoundWord>
+fn own_word(legacy: bool, scoping: &Scoping, node: &Node) -> Option<FoundWord>
     ensures { option_map found_view result
-        ≡ own_word scoping.now node.now.kind node.now.id.0 (docs_in node.now.parts.items) }
+        ≡ own_word legacy scoping.now node.now.kind node.now.id.0 (docs_in node.now.parts.items) }
 {
     if is_written(scoping, node) {
-        first_level_word_at(node.field(Field::Initializer))
+        first_level_word_at(legacy, node.field(Field::Initializer))
     } else {
         None
     }

@@ -4,7 +4,7 @@ ghost use Rattle.oxt_faults.specs.Level.{LevelWordAt, at_level, changed, found_a
 ghost use Rattle.oxt_tree.specs.View.{doc_or_nil, docs_in, node_doc};
 
 use crate::reach::{Reach, reach_of};
-use crate::silent::is_silent;
+use crate::silent::{is_silent, silent_inside};
 use crate::word::{Destination, LevelWord, word_at};
 use oxt_grammar::field::Field;
 use oxt_grammar::holds::Row;
@@ -34,42 +34,52 @@ pub struct Around {
 
 /// The first word at the level of the node, where a node comes before those in it: a word that would mean something
 /// else if the node stood in a function of its own. None stands in erased code, in a type, in a function that is no
-/// arrow, nor in the methods, the values of fields and the static blocks of a class.
-pub fn first_level_word(node: &Node) -> Option<FoundWord>
-    ensures { option_map found_view result ≡ level_word (node_doc node.now) }
+/// arrow, nor in the methods, the values of fields and the static blocks of a class. `legacy` says that decorators have
+/// their older meaning.
+pub fn first_level_word(legacy: bool, node: &Node) -> Option<FoundWord>
+    ensures { option_map found_view result ≡ level_word legacy (node_doc node.now) }
 {
     let words = LevelWords {
+        legacy,
         destination: Destination::Deeper,
     };
     first_in(&words, node, at_level())
 }
 
 /// The first word at the level of the parts, as of a body.
-pub fn first_level_word_in(parts: &[Part]) -> Option<FoundWord>
-    ensures { option_map found_view result ≡ level_words (docs_in parts.now) }
+pub fn first_level_word_in(legacy: bool, parts: &[Part]) -> Option<FoundWord>
+    ensures { option_map found_view result ≡ level_words legacy (docs_in parts.now) }
 {
     let words = LevelWords {
+        legacy,
         destination: Destination::Deeper,
     };
     first_among(&words, parts, at_level())
 }
 
 /// The first word at the level of the part, if there is one.
-pub fn first_level_word_at(part: Option<&Part>) -> Option<FoundWord>
-    ensures { option_map found_view result ≡ level_word (doc_or_nil part.entry) }
+pub fn first_level_word_at(legacy: bool, part: Option<&Part>) -> Option<FoundWord>
+    ensures { option_map found_view result ≡ level_word legacy (doc_or_nil part.entry) }
 {
     match part {
-        Some(Part::Node(node)) => first_level_word(node),
-        Some(Part::List(parts)) => first_level_word_in(parts),
+        Some(Part::Node(node)) => first_level_word(legacy, node),
+        Some(Part::List(parts)) => first_level_word_in(legacy, parts),
         _ => None,
     }
 }
 
 /// The first word at the level of the part that would mean something else where the part goes, if there is one.
-pub fn first_moved_word(destination: Destination, part: Option<&Part>) -> Option<FoundWord>
-    ensures { option_map found_view result ≡ moved_word destination (doc_or_nil part.entry) }
+pub fn first_moved_word(
+    legacy: bool,
+    destination: Destination,
+    part: Option<&Part>,
+) -> Option<FoundWord>
+    ensures { option_map found_view result ≡ moved_word legacy destination (doc_or_nil part.entry) }
 {
-    let words = LevelWords { destination };
+    let words = LevelWords {
+        legacy,
+        destination,
+    };
     match part {
         Some(Part::Node(node)) => first_in(&words, node, at_level()),
         Some(Part::List(parts)) => first_among(&words, parts.as_slice(), at_level()),
@@ -90,6 +100,9 @@ fn at_level() -> Around
 /// The search for the words that would mean something else where the code goes.
 #[derive(Clone, Copy)]
 struct LevelWords {
+    /// Decorators have their older meaning.
+    legacy: bool,
+    /// Where the code goes.
     destination: Destination,
 }
 
@@ -102,13 +115,13 @@ impl Search for LevelWords {
 
     ghost view = { found_view };
 
-    ghost sought = { λ search. sought search.destination };
+    ghost sought = { λ search. sought search.legacy search.destination };
 
     fn visit(&self, node: &Node, around: Around) -> Visit<FoundWord, Around> {
         if is_silent(around.reach, node) {
             Visit {
                 found: None,
-                inside: Inside::Skipped,
+                inside: silent_inside(self.legacy, around.reach, node, around),
             }
         } else {
             Visit {

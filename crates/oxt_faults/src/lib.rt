@@ -13,6 +13,7 @@ pub mod misplaced;
 pub mod moved;
 pub mod namespace;
 mod outside;
+mod private_in;
 pub mod reach;
 mod redeclared;
 mod rules;

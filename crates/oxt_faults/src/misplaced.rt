@@ -9,17 +9,19 @@
 //! `oxt_class_checks`.
 ghost use Rattle.std.specs.Prelude.{◌≡◌, find, option_map};
 ghost use Rattle.oxt_faults.specs.Misplaced.{Misplacement, is_misplaced, misplaced, misplaced_at, misplaced_kinds, misplaced_view, sought};
+ghost use Rattle.oxt_fields.specs.Rules.{rules_view};
 ghost use Rattle.oxt_tree.specs.View.{docs_in, node_doc};
 
 use crate::rules::{is_misplaced, misplaced_kinds};
-use crate::seat::{Seat, seat_of};
+use crate::seat::{Seat, dropped_seat, seat_in, seat_inside};
+use oxt_fields::rules::FieldRules;
 use oxt_grammar::holds::Row;
 use oxt_grammar::kind::Kind;
 use oxt_search::first::first_in;
 use oxt_search::search::{Inside, Search, Visit};
 use oxt_tree::ids::NodeId;
 use oxt_tree::tree::Node;
-use oxt_unbuilt::dropped::is_dropped;
+use oxt_unbuilt::dropped::{inside_dropped, is_dropped};
 
 /// What is wrong with the place of a node.
 #[derive(Clone, Copy, Debug, PartialEq, Eq)]
@@ -40,8 +42,10 @@ pub enum MisplacedKind {
     Key,
     /// It is a field with decorators that moves or goes, or one that moves beside an `accessor` with a value.
     Field,
-    /// It decorates what has no decorators.
+    /// It decorates what has no decorators, or is a target in a pattern whose name is read as the alias of a decorated class.
     Decorator,
+    /// It is an accessor whose private field has no name, or one that is taken.
+    Accessor,
 }
 
 /// A node that stands where it may not.
@@ -55,18 +59,22 @@ pub struct Misplaced {
 
 /// The first node outside erased code that stands where it may not by what stands around it, where a node comes before
 /// those in it. Of several kinds at one node it is the first in their order. What is erased as a whole may be misplaced
-/// itself, and nothing in it is.
-pub fn first_misplaced(program: &Node) -> Option<Misplaced>
-    ensures { option_map misplaced_view result ≡ misplaced (node_doc program.now) }
+/// itself, and nothing in it is. `rules` say whether decorators have their older meaning, and which names are read as
+/// aliases.
+pub fn first_misplaced(program: &Node, rules: FieldRules) -> Option<Misplaced>
+    ensures { option_map misplaced_view result ≡ misplaced (rules_view rules.entry) (node_doc program.now) }
 {
-    first_in(&Misplacements, program, Seat::Other)
+    first_in(&Misplacements { rules }, program, Seat::Other)
 }
 
 /// The search for such nodes.
 #[derive(Clone, Copy)]
-struct Misplacements;
+struct Misplacements<'a> {
+    /// The rules for decorators.
+    rules: FieldRules<'a>,
+}
 
-impl Search for Misplacements {
+impl<'a> Search for Misplacements<'a> {
     type State = Seat;
 
     type Found = Misplaced;
@@ -75,30 +83,30 @@ impl Search for Misplacements {
 
     ghost view = { misplaced_view };
 
-    ghost sought = { λ _. sought };
+    ghost sought = { λ search. sought (rules_view search.rules) };
 
     fn visit(&self, node: &Node, seat: Seat) -> Visit<Misplaced, Seat> {
         Visit {
-            found: misplaced_at(seat, node),
+            found: misplaced_at(self.rules, seat, node),
             inside: if is_dropped(node) {
-                Inside::Skipped
+                inside_dropped(self.rules.legacy, node, dropped_seat(seat))
             } else {
-                Inside::ByField(seat)
+                Inside::ByField(seat_inside(seat, node))
             },
         }
     }
 
-    fn in_field(&self, _seat: Seat, kind: Kind, row: &Row) -> Option<Seat> {
-        Some(seat_of(kind, row))
+    fn in_field(&self, seat: Seat, kind: Kind, row: &Row) -> Option<Seat> {
+        Some(seat_in(seat, kind, row))
     }
 }
 
 /// How the node itself is misplaced in that seat.
-fn misplaced_at(seat: Seat, node: &Node) -> Option<Misplaced>
+fn misplaced_at(rules: FieldRules, seat: Seat, node: &Node) -> Option<Misplaced>
     ensures { option_map misplaced_view result
-        ≡ misplaced_at seat node.now.kind node.now.id.0 (docs_in node.now.parts.items) }
+        ≡ misplaced_at (rules_view rules.entry) seat node.now.kind node.now.id.0 (docs_in node.now.parts.items) }
 {
-    let kind = kind_at(seat, node)?;
+    let kind = kind_at(rules, seat, node)?;
     Some(Misplaced {
         kind,
         node: node.id,
@@ -106,12 +114,12 @@ fn misplaced_at(seat: Seat, node: &Node) -> Option<Misplaced>
 }
 
 /// The first kind in which it is misplaced there.
-fn kind_at(seat: Seat, node: &Node) -> Option<MisplacedKind>
+fn kind_at(rules: FieldRules, seat: Seat, node: &Node) -> Option<MisplacedKind>
     ensures { result
-        ≡ find (is_misplaced seat node.now.kind (docs_in node.now.parts.items)) misplaced_kinds }
+        ≡ find (is_misplaced (rules_view rules.entry) seat node.now.kind (docs_in node.now.parts.items)) misplaced_kinds }
 {
     misplaced_kinds()
         .iter()
         .copied()
-        .find(|kind| is_misplaced(*kind, seat, node))
+        .find(|kind| is_misplaced(rules, *kind, seat, node))
 }

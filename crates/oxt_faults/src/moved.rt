@@ -2,7 +2,7 @@
 ghost use Rattle.std.specs.Prelude.{◌≡◌, IfOk, option_map};
 ghost use Rattle.oxt_faults.specs.Captured.{Capture};
 ghost use Rattle.oxt_faults.specs.Earliest.{moved_view};
-ghost use Rattle.oxt_faults.specs.Moved.{capture_with, captured_at, captured_in, class_capture, field_capture, key_capture, moved_capture, sought};
+ghost use Rattle.oxt_faults.specs.Moved.{capture_with, captured_at, captured_in, class_capture, field_capture, key_capture, moved_capture, moves_key, sought};
 ghost use Rattle.oxt_faults.specs.Redeclared.{mark_by};
 ghost use Rattle.oxt_fields.specs.Rules.{rules_view};
 ghost use Rattle.oxt_tree.specs.View.{doc_or_nil, docs_in, node_doc};
@@ -26,13 +26,14 @@ use oxt_search::all::all_in;
 use oxt_search::search::{Inside, Search, Visit};
 use oxt_tree::ids::OutOfMemory;
 use oxt_tree::tree::{Node, Part};
-use oxt_unbuilt::dropped::is_dropped;
+use oxt_unbuilt::dropped::{inside_dropped, is_dropped};
 use std::alloc::Global;
 
 /// Of the names in the program that would mean something else once the fields of classes move, outside what is erased, the
 /// one at the node of the least number. They are: in a field that moves, a word that means something else where it goes, or
 /// a name that the constructor of the class declares; a word in a key that is left for a static block of the class; and a
-/// property among the parameters of a constructor that this declares again.
+/// property among the parameters of a constructor that this declares again. Where decorators have their older meaning, the
+/// value of an `accessor` is that of a private field.
 ///
 /// # Errors
 ///
@@ -97,7 +98,7 @@ impl<'a, 'b> Search for MovingFields<'a, 'b> {
         if is_dropped(node) {
             Visit {
                 found: None,
-                inside: Inside::Skipped,
+                inside: inside_dropped(self.rules.legacy, node, around),
             }
         } else {
             Visit {
@@ -159,8 +160,17 @@ fn field_capture<'a>(
 {
     match fate_of(rules, around.hoists, node) {
         Fate::Moves { has_temporary, .. } => {
-            let value = captured_in(scoping, around, is_static(node), node.field(Field::Value));
-            earlier(value, key_capture(scoping, around, has_temporary, node))
+            let value = captured_in(
+                rules.legacy,
+                scoping,
+                around,
+                is_static(node),
+                node.field(Field::Value),
+            );
+            earlier(
+                value,
+                key_capture(rules.legacy, scoping, around, has_temporary, node),
+            )
         }
         _ => None,
     }
@@ -168,35 +178,51 @@ fn field_capture<'a>(
 
 /// What would be captured in the key of the field, if that is written where the field is set.
 fn key_capture<'a>(
+    legacy: bool,
     scoping: &'a Scoping,
     around: ClassAround,
     has_temporary: bool,
     node: &Node,
 ) -> Option<MovedName<'a>>
     ensures { option_map moved_view result
-        ≡ key_capture scoping.now around has_temporary node.now.kind (docs_in node.now.parts.items) }
+        ≡ key_capture legacy scoping.now around has_temporary node.now.kind (docs_in node.now.parts.items) }
 {
-    if !has_temporary && has_expression(node) {
-        captured_in(scoping, around, is_static(node), node.field(Field::Key))
+    if moves_key(has_temporary, node) {
+        captured_in(
+            legacy,
+            scoping,
+            around,
+            is_static(node),
+            node.field(Field::Key),
+        )
     } else {
         None
     }
 }
 
+/// Whether the key of the element, which moves, is written where that is set: it is a field, its key is an expression, and no
+/// temporary keeps that.
+fn moves_key(has_temporary: bool, node: &Node) -> bool
+    ensures { result ≡ moves_key has_temporary node.now.kind (docs_in node.now.parts.items) }
+{
+    node.kind.is(Kind::PropertyDefinition) && (!has_temporary && has_expression(node))
+}
+
 /// What would be captured in code that goes with a field, static or not.
 fn captured_in<'a>(
+    legacy: bool,
     scoping: &'a Scoping,
     around: ClassAround,
     is_static: bool,
     part: Option<&Part>,
 ) -> Option<MovedName<'a>>
     ensures { option_map moved_view result
-        ≡ captured_in scoping.now around is_static (doc_or_nil part.entry) }
+        ≡ captured_in legacy scoping.now around is_static (doc_or_nil part.entry) }
 {
     if is_static {
-        of_word(first_moved_word(Destination::StaticBlock, part))
+        of_word(first_moved_word(legacy, Destination::StaticBlock, part))
     } else {
-        let word = of_word(first_moved_word(Destination::Constructor, part));
-        earlier(word, first_hidden(scoping, around.scopes, part))
+        let word = of_word(first_moved_word(legacy, Destination::Constructor, part));
+        earlier(word, first_hidden(legacy, scoping, around.scopes, part))
     }
 }

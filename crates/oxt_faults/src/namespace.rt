@@ -11,20 +11,23 @@ use oxt_grammar::kind::Kind;
 use oxt_search::first::first_in;
 use oxt_search::search::{Inside, Search, Visit};
 use oxt_tree::tree::Node;
-use oxt_unbuilt::dropped::is_dropped;
+use oxt_unbuilt::dropped::{inside_dropped, is_dropped};
 
 /// The first word in the program, outside what is erased, that stands at the level of the statements of a namespace: they
 /// go into a function, where the word would mean something else. What stands at the level of a namespace inside another
-/// stands at the level of the outer one too.
-pub fn first_namespace_word(program: &Node) -> Option<FoundWord>
-    ensures { option_map found_view result ≡ namespace_word (node_doc program.now) }
+/// stands at the level of the outer one too. `legacy` says that decorators have their older meaning.
+pub fn first_namespace_word(legacy: bool, program: &Node) -> Option<FoundWord>
+    ensures { option_map found_view result ≡ namespace_word legacy (node_doc program.now) }
 {
-    first_in(&Namespaces, program, ())
+    first_in(&Namespaces { legacy }, program, ())
 }
 
 /// The search for the outermost namespaces, and for the first word of each.
 #[derive(Clone, Copy)]
-struct Namespaces;
+struct Namespaces {
+    /// Decorators have their older meaning.
+    legacy: bool,
+}
 
 impl Search for Namespaces {
     type State = ();
@@ -35,17 +38,17 @@ impl Search for Namespaces {
 
     ghost view = { found_view };
 
-    ghost sought = { λ _. sought };
+    ghost sought = { λ search. sought search.legacy };
 
     fn visit(&self, node: &Node, _state: ()) -> Visit<FoundWord, ()> {
         if is_dropped(node) {
             Visit {
                 found: None,
-                inside: Inside::Skipped,
+                inside: inside_dropped(self.legacy, node, ()),
             }
         } else if node.kind.is(Kind::TSModuleBlock) {
             Visit {
-                found: first_level_word_at(node.field(Field::Body)),
+                found: first_level_word_at(self.legacy, node.field(Field::Body)),
                 inside: Inside::Skipped,
             }
         } else {

@@ -1,17 +1,22 @@
 //! Which nodes may not stand in a seat.
-ghost use Rattle.std.specs.Prelude.{◌≡◌};
+ghost use Rattle.std.specs.Prelude.{◌≡◌, is_some};
 ghost use Rattle.std.specs.List.{list_any};
-ghost use Rattle.oxt_faults.specs.Misplaced.{is_declared_variable, is_emitting_namespace, is_misplaced, is_misplaced_body, is_misplaced_decorator, is_misplaced_item, is_module_statement, is_statement_list, is_typescript_declaration, list_kinds, misplaced_kinds, module_kinds};
+ghost use Rattle.oxt_faults.specs.Misplaced.{is_alias_name, is_alias_target, is_declared_variable, is_emitting_namespace, is_misplaced, is_misplaced_body, is_misplaced_decorator, is_misplaced_item, is_module_statement, is_statement_list, is_typescript_declaration, list_kinds, misplaced_kinds, module_kinds};
 ghost use Rattle.oxt_grammar.specs.Places.{same_kind};
-ghost use Rattle.oxt_tree.specs.View.{docs_in};
+ghost use Rattle.oxt_faults.specs.PrivateIns.{holds_private_in};
+ghost use Rattle.oxt_fields.specs.Rules.{rules_view};
+ghost use Rattle.oxt_tree.specs.View.{doc_or_nil, docs_in};
 
 use crate::misplaced::MisplacedKind;
+use crate::private_in::holds_private_in;
 use crate::seat::Seat;
+use oxt_fields::rules::FieldRules;
 use oxt_grammar::category::Category;
 use oxt_grammar::field::Field;
 use oxt_grammar::kind::Kind;
 use oxt_modules::alias::is_alias;
-use oxt_tree::tree::Node;
+use oxt_tree::ids::NodeId;
+use oxt_tree::tree::{Node, Part};
 use oxt_unbuilt::dropped::is_dropped;
 
 /// The kinds in which a node may be misplaced by what stands around it, in the order in which they are answered.
@@ -27,18 +32,20 @@ pub fn misplaced_kinds() -> &'static [MisplacedKind]
 
 /// Whether the node is misplaced in that seat, by kind; never in a kind that the table of names or a class as a whole
 /// decides.
-pub fn is_misplaced(kind: MisplacedKind, seat: Seat, node: &Node) -> bool
-    ensures { result ≡ is_misplaced seat node.now.kind (docs_in node.now.parts.items) kind }
+pub fn is_misplaced(rules: FieldRules, kind: MisplacedKind, seat: Seat, node: &Node) -> bool
+    ensures { result
+        ≡ is_misplaced (rules_view rules.entry) seat node.now.kind (docs_in node.now.parts.items) kind }
 {
     match kind {
         MisplacedKind::Body => is_misplaced_body(seat, node),
         MisplacedKind::Namespace => is_misplaced_item(seat, node),
-        MisplacedKind::Decorator => is_misplaced_decorator(seat, node),
+        MisplacedKind::Decorator => is_misplaced_decorator(rules, seat, node),
         MisplacedKind::Merge => false,
         MisplacedKind::Enum => false,
         MisplacedKind::Super => false,
         MisplacedKind::Key => false,
         MisplacedKind::Field => false,
+        MisplacedKind::Accessor => false,
     }
 }
 
@@ -101,13 +108,51 @@ fn module_kinds() -> &'static [Kind]
     ]
 }
 
-/// Whether the node decorates a parameter, which has no decorators where they are the standard ones.
-fn is_misplaced_decorator(seat: Seat, node: &Node) -> bool
-    ensures { result ≡ is_misplaced_decorator seat node.now.kind }
+/// Whether the node decorates what has no decorators, or is a target in a pattern whose name is read as the alias of a
+/// decorated class. Where decorators are the standard ones, parameters have none; where they have their older meaning, class
+/// expressions and their elements, constructors and all parameters but those of methods of class declarations have none, and a
+/// decorator of a parameter of a constructor holds no private `in`.
+fn is_misplaced_decorator(rules: FieldRules, seat: Seat, node: &Node) -> bool
+    ensures { result
+        ≡ is_misplaced_decorator (rules_view rules.entry) seat node.now.kind (docs_in node.now.parts.items) }
 {
     match seat {
         Seat::ParameterDecorator => node.kind.is(Kind::Decorator),
+        Seat::StrayDecorator => rules.legacy && node.kind.is(Kind::Decorator),
+        Seat::MethodParameterDecorator => !rules.legacy && node.kind.is(Kind::Decorator),
+        Seat::ConstructorParameterDecorator => {
+            node.kind.is(Kind::Decorator) && (!rules.legacy || holds_private_in(node))
+        }
+        _ => is_alias_target(rules, node),
+    }
+}
+
+/// Whether the node is a target in a pattern that is its property's name too, and is read as the alias of a decorated class.
+fn is_alias_target(rules: FieldRules, node: &Node) -> bool
+    ensures { result
+        ≡ is_alias_target (rules_view rules.entry) node.now.kind (docs_in node.now.parts.items) }
+{
+    node.kind.is(Kind::AssignmentTargetPropertyIdentifier)
+        && is_alias_name(rules, node.field(Field::Binding))
+}
+
+/// Whether the part is a name that is read as the alias of a decorated class.
+fn is_alias_name(rules: FieldRules, part: Option<&Part>) -> bool
+    ensures { result ≡ is_alias_name (rules_view rules.entry) (doc_or_nil part.entry) }
+{
+    match part {
+        Some(Part::Node(name)) => is_read_as_alias(rules, name.id),
         _ => false,
+    }
+}
+
+/// Whether the node of that number is read as the alias of a decorated class.
+fn is_read_as_alias(rules: FieldRules, node: NodeId) -> bool
+    ensures { result ≡ is_some ((rules_view rules.entry).alias node.0) }
+{
+    match rules.plan.alias_of(node) {
+        Some(_) => true,
+        None => false,
     }
 }
 

@@ -1,21 +1,34 @@
 //! Nodes in which nothing stands at the level.
 ghost use Rattle.std.specs.Prelude.{◌≡◌};
 ghost use Rattle.std.specs.List.{list_any};
-ghost use Rattle.oxt_faults.specs.Silent.{is_erased_code, is_hidden, is_silent, is_type, type_kinds};
+ghost use Rattle.oxt_faults.specs.Silent.{is_erased_code, is_hidden, is_silent, is_type, silent_inside, type_kinds};
 ghost use Rattle.oxt_grammar.specs.Places.{same_kind};
 ghost use Rattle.oxt_tree.specs.View.{docs_in};
 
 use crate::reach::Reach;
 use oxt_grammar::category::Category;
 use oxt_grammar::kind::Kind;
+use oxt_search::search::Inside;
 use oxt_tree::tree::Node;
-use oxt_unbuilt::dropped::is_dropped;
+use oxt_unbuilt::dropped::{inside_dropped, is_dropped};
 
 /// Whether neither the node nor anything in it stands at the level: it is out of reach, erased, or a type.
 pub fn is_silent(reach: Reach, node: &Node) -> bool
     ensures { result ≡ is_silent reach node.now.kind (docs_in node.now.parts.items) }
 {
     is_hidden(reach) || (is_erased_code(node) || is_type(node.kind))
+}
+
+/// How a search goes on inside such a node: not at all, but for the decorators of a field that is only declared, where
+/// decorators have their older meaning. These are reached in that state.
+pub fn silent_inside<S: Copy>(legacy: bool, reach: Reach, node: &Node, state: S) -> Inside<S>
+    ensures { result ≡ silent_inside legacy reach node.now.kind (docs_in node.now.parts.items) state }
+{
+    if is_hidden(reach) {
+        Inside::Skipped
+    } else {
+        inside_dropped(legacy, node, state)
+    }
 }
 
 /// Whether what is reached so is left out.

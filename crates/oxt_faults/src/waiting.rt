@@ -85,7 +85,7 @@ fn waiting_word<'a>(rules: FieldRules, hoists: bool, node: &Node) -> Option<Move
         ≡ waiting_word (rules_view rules.entry) hoists node.now.kind (docs_in node.now.parts.items) }
 {
     if waits(fate_of(rules, hoists, node)) {
-        of_word(first_level_word_at(node.field(Field::Key)))
+        of_word(first_level_word_at(rules.legacy, node.field(Field::Key)))
     } else {
         None
     }

@@ -1,7 +1,8 @@
 -- What becomes of the fields of a class.
 use Rattle.std.specs.Prelude.{ℕ, List, [], ◌∷◌, Bool, true, false, not, ◌&&◌, ◌||◌, if◌then◌else◌, Option, None, Some, codes}
 use Rattle.std.specs.List.{list_any}
-use Rattle.std.specs.Option.{option_or}
+use Rattle.std.specs.Option.{is_some, option_or}
+use Rattle.oxt_decorated.specs.Calls.{has_any, is_called}
 use Rattle.oxt_fields.specs.Rules.{Rules}
 use Rattle.oxt_fields.specs.declared.fate.Fate.{Fate}
 use Rattle.oxt_fields.specs.declared.fate.Fate.TheVariants as fates
@@ -12,7 +13,7 @@ use Rattle.oxt_grammar.specs.declared.kind.Kind.TheVariants as kind
 use Rattle.oxt_names.specs.Constant.{Constant, integer, string}
 use Rattle.oxt_names.specs.Integer.{is_negative}
 use Rattle.oxt_tree.specs.Doc.{Doc, nil, flag, number, text, list, node, Docs}
-use Rattle.oxt_tree.specs.Fields.{docs_list, is_in, is_kind, is_nil, is_set, named}
+use Rattle.oxt_tree.specs.Fields.{docs_list, elements, is_in, is_kind, is_nil, is_set, named}
 use Rattle.oxt_tree.specs.Inner.{inner_expression}
 
 -- ---- keys
@@ -59,10 +60,50 @@ keeps_as None b = b
 keeps_as (Some (string t)) b = false
 keeps_as (Some (integer z)) b = is_negative z
 
+-- a name that is read as the alias of a decorated class
+abbrev pub is_alias : Rules → Doc → Bool
+is_alias r nil = false
+is_alias r (flag b) = false
+is_alias r (number n) = false
+is_alias r (text t) = false
+is_alias r (list ds) = false
+is_alias r (node k i b e ds) = is_some (r.alias i)
+
 -- A key keeps its empty field, though such are dropped, where it needs a temporary once wrappers are erased and constants
--- are written in their places.
+-- are written in their places, or is an alias.
 abbrev pub keeps_empty : Rules → Doc → Bool
-keeps_empty r d = keeps_as (key_constant r d) (needs_temporary r (unwrapped d))
+keeps_empty r d = keeps_as (key_constant r d) (needs_temporary r (unwrapped d) || is_alias r (unwrapped d))
+
+-- the kinds of keys that the call behind a class repeats: names, and some literals
+abbrev pub repeated_kinds : List Kind
+repeated_kinds =
+    kind.IdentifierName ∷ kind.PrivateIdentifier ∷ kind.StringLiteral ∷ kind.NumericLiteral ∷ kind.NullLiteral ∷ []
+
+abbrev pub is_repeated_kind : Kind → Bool
+is_repeated_kind k = list_any (λ j. same_kind k j) repeated_kinds
+
+-- a template without expressions
+abbrev pub is_plain_template : Kind → Docs → Bool
+is_plain_template k ds = same_kind k kind.TemplateLiteral && not (has_any (elements (named (codes "expressions") k ds)))
+
+-- a key that the call does not repeat, once it is written so
+abbrev pub is_held : Doc → Bool
+is_held nil = false
+is_held (flag b) = false
+is_held (number n) = false
+is_held (text t) = false
+is_held (list ds) = false
+is_held (node k i b e ds) = not (is_repeated_kind k || is_plain_template k ds)
+
+-- The key of an element needs a temporary for the call behind its class unless the call repeats it, once wrappers are erased
+-- and constants are written in their places.
+abbrev pub needs_call_temporary : Rules → Doc → Bool
+needs_call_temporary r d = keeps_as (key_constant r d) (is_held (unwrapped d))
+
+-- an element that gives a call with such a temporary, where decorators are lowered
+abbrev pub holds_call_key : Rules → Kind → Docs → Bool
+holds_call_key r k ds =
+    r.legacy && (is_called (node k 0 0 0 ds) && needs_call_temporary r (named (codes "key") k ds))
 
 -- ---- fields
 
@@ -113,10 +154,14 @@ moving_fate r h k ds =
     then fates.Moves (not (is_static k ds) && (is_private k ds || not r.drops)) (not (is_private k ds) && needs_temporary r (named (codes "key") k ds))
     else fates.Stays
 
+-- the key of an element keeps it, though it is empty and such are dropped: by itself, or for the call behind the class
+abbrev pub is_kept_empty : Rules → Kind → Docs → Bool
+is_kept_empty r k ds = keeps_empty r (named (codes "key") k ds) || holds_call_key r k ds
+
 -- a field where fields are defined: an empty one goes where it is not private, such are dropped, and its key does not keep it
 abbrev pub defined_fate : Rules → Kind → Docs → Fate
 defined_fate r k ds =
-    if r.drops && (not (has_value k ds) && (not (is_private k ds) && not (keeps_empty r (named (codes "key") k ds))))
+    if r.drops && (not (has_value k ds) && (not (is_private k ds) && not (is_kept_empty r k ds)))
     then fates.Goes
     else fates.Stays
 
@@ -126,10 +171,22 @@ assigned_fate r h k ds = if has_value k ds then moving_fate r h k ds else empty_
 abbrev pub field_fate : Rules → Bool → Kind → Docs → Fate
 field_fate r h k ds = if r.moves then assigned_fate r h k ds else defined_fate r k ds
 
+-- an accessor that becomes a private field with a getter and a setter
+abbrev pub is_stored : Rules → Kind → Bool
+is_stored r k = r.legacy && same_kind k kind.AccessorProperty
+
+-- Such a field moves as other private ones do.
+abbrev pub stored_fate : Rules → Bool → Kind → Docs → Fate
+stored_fate r h k ds =
+    if r.moves && (h && (has_value k ds && not (is_static k ds))) then fates.Moves true false else fates.Stays
+
 -- What becomes of an element of a class, where the flag says whether private instance fields move too. All but fields
--- stay, and so do fields that are only declared.
+-- and accessors that become such stay, and so do fields that are only declared.
 abbrev pub fate_by : Rules → Bool → Kind → Docs → Fate
-fate_by r h k ds = if is_field k ds then field_fate r h k ds else fates.Stays
+fate_by r h k ds =
+    if is_field k ds then field_fate r h k ds
+    else if is_stored r k then stored_fate r h k ds
+    else fates.Stays
 
 abbrev pub fate : Rules → Bool → Doc → Fate
 fate r h nil = fates.Stays

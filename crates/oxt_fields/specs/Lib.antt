@@ -1,3 +1,4 @@
+pub mod Aliases
 pub mod Classes
 pub mod Fates
 pub mod Marks

@@ -2,6 +2,8 @@
 //! writes to, which a key may repeat.
 #![tactic(auto)]
 
+pub mod alias;
+pub mod aliases;
 pub mod class;
 pub mod fate;
 pub mod rules;

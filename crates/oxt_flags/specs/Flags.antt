@@ -4,7 +4,7 @@ use Rattle.std.specs.List.{list_any}
 use Rattle.std.specs.Str.{bytes_eq}
 use Rattle.clap.specs.Lexer.{long_of}
 use Rattle.oxt_flags.specs.Choices.{chosen_extensions, chosen_module}
-use Rattle.oxt_options.specs.Options.{TransformData, transform_defaults, typescript_defaults}
+use Rattle.oxt_options.specs.Options.{TransformData, decorator_defaults, transform_defaults, typescript_defaults}
 use Rattle.oxt_options.specs.declared.options.Module.{Module}
 use Rattle.oxt_options.specs.declared.rewrite.RewriteExtensionsMode.{RewriteExtensionsMode}
 
@@ -29,6 +29,7 @@ abbrev pub flags : List FlagData
 flags =
     with_value (codes "jsx-pragma")
     ∷ with_value (codes "jsx-pragma-frag")
+    ∷ alone (codes "legacy")
     ∷ with_value (codes "module")
     ∷ alone (codes "no-declare-fields")
     ∷ alone (codes "no-namespaces")
@@ -139,6 +140,7 @@ options_by value is_used «module» extensions = record transform_defaults {
     optimize_enums = is_used (codes "optimize-enums");
     rewrite_import_extensions = extensions;
   };
+  decorator = record decorator_defaults { legacy = is_used (codes "legacy") };
   «module» = «module»;
   set_public_class_fields = is_used (codes "set-public-class-fields");
 }

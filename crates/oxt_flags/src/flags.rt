@@ -16,6 +16,8 @@ pub struct Flag {
 pub const JSX_PRAGMA: &str = "jsx-pragma";
 /// The function that makes a fragment.
 pub const JSX_PRAGMA_FRAG: &str = "jsx-pragma-frag";
+/// Decorators have TypeScript's older meaning, and are lowered.
+pub const LEGACY: &str = "legacy";
 /// The module system that the program is written for, by its word.
 pub const MODULE: &str = "module";
 /// Fields without a value are removed.
@@ -47,6 +49,10 @@ pub fn flags() -> &'static [Flag]
         Flag {
             name: JSX_PRAGMA_FRAG,
             takes_value: true,
+        },
+        Flag {
+            name: LEGACY,
+            takes_value: false,
         },
         Flag {
             name: MODULE,

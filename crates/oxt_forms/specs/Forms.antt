@@ -1,7 +1,7 @@
 -- Tests on documents that decide how a node is read.
-use Rattle.std.specs.Prelude.{ℕ, ◌==◌, List, Bool, true, false, not, ◌&&◌, if◌then◌else◌, is_none, codes, nat_lt}
+use Rattle.std.specs.Prelude.{ℕ, ◌==◌, List, Bool, true, false, not, ◌&&◌, if◌then◌else◌, Option, None, Some, codes, nat_lt}
 use Rattle.oxt_facts.specs.Facts.{Known}
-use Rattle.oxt_facts.specs.Told.{told_of}
+use Rattle.oxt_facts.specs.Told.{Telling, alias, inner, told_of}
 use Rattle.oxt_grammar.specs.declared.category.Category.TheVariants as category
 use Rattle.oxt_grammar.specs.declared.kind.Kind.{Kind}
 use Rattle.oxt_grammar.specs.declared.kind.Kind.TheVariants as kind
@@ -51,18 +51,21 @@ makes x d =
     && (is_name_again x (seen (field_of (codes "left") d))
     && is_empty_object (seen (field_of (codes "right") d))))
 
--- nothing is told of the node
-abbrev pub is_untold : Known → Doc → Bool
-is_untold f nil = true
-is_untold f (flag b) = true
-is_untold f (number n) = true
-is_untold f (text t) = true
-is_untold f (list ds) = true
-is_untold f (node k i b e ds) = is_none (told_of f.told i)
+-- what is told of a name leaves it a bare one, which may be a made one or mean another group
+abbrev pub leaves_bare : Option Telling → Bool
+leaves_bare None = true
+leaves_bare (Some (alias t)) = true
+leaves_bare (Some (inner g)) = true
+leaves_bare t = false
+
+-- the same of a document
+abbrev pub stays_bare : Known → Doc → Bool
+stays_bare f (node k i b e ds) = leaves_bare (told_of f.told i)
+stays_bare f d = true
 
 -- a bare name that is read as one
 abbrev pub is_bare_name : Known → Doc → Bool
-is_bare_name f d = is_kind kind.IdentifierReference d && is_untold f d
+is_bare_name f d = is_kind kind.IdentifierReference d && stays_bare f d
 
 -- `x || ..` with such a name
 abbrev pub is_choice : Known → Kind → Docs → Bool

@@ -2,7 +2,7 @@
 use Rattle.std.specs.Prelude.{ℕ, List, [], ◌∷◌, ◌++◌, Bool, true, false, if◌then◌else◌, Option, None, Some, codes}
 use Rattle.oxt_facts.specs.Facts.{Known, group_at, is_made}
 use Rattle.oxt_facts.specs.Inside.{stored_at}
-use Rattle.oxt_forms.specs.Made.{base_key, base_name}
+use Rattle.oxt_forms.specs.Made.{base_key, base_object, made_tag}
 use Rattle.oxt_facts.specs.Entry.{Entry, binding_text, detail, lone, owned, spelled}
 use Rattle.oxt_facts.specs.Owners.{owner_in}
 use Rattle.oxt_facts.specs.declared.item.Binding.{Binding}
@@ -60,8 +60,9 @@ abbrev pub hash_word : Doc → List Entry
 hash_word d = if is_nil d then [] else spelled item.Hash (detail d)
 
 -- the made name and the key of the member `m` in `x || (x = m || (m = {}))`
-abbrev pub base_word : Doc → List Entry
-base_word m = spelled item.Made (detail (base_name m)) ++ spelled item.Str (detail (base_key m))
+abbrev pub base_word : Known → Doc → List Entry
+base_word f m =
+    spelled item.Made (detail (made_tag f (base_object m))) ++ spelled item.Str (detail (base_key m))
 
 -- the entry into a called function, whose parameter is the name of that number and may be made
 abbrev pub in_word : Known → Bool → ℕ → Docs → List Entry

@@ -1,5 +1,5 @@
 -- Forms that are read by a rule of their own where they have made names.
-use Rattle.std.specs.Prelude.{ℕ, List, Bool, true, false, not, ◌&&◌, ◌||◌, if◌then◌else◌, Option, None, Some, codes}
+use Rattle.std.specs.Prelude.{ℕ, List, Bool, true, false, not, ◌&&◌, ◌||◌, if◌then◌else◌, Option, None, Some, is_some, codes}
 use Rattle.std.specs.List.{list_any}
 use Rattle.oxt_grammar.specs.Places.{same_kind}
 use Rattle.oxt_grammar.specs.declared.kind.Kind.{Kind}
@@ -9,12 +9,33 @@ use Rattle.oxt_tree.specs.Fields.{first, named, field_of, elements, docs_list, i
 use Rattle.oxt_tree.specs.Inner.{seen}
 use Rattle.oxt_tree.specs.Syntax.{is_mere_declaration}
 use Rattle.oxt_facts.specs.Facts.{Known, is_made}
-use Rattle.oxt_facts.specs.Told.{Telling, gone, told_of}
+use Rattle.oxt_facts.specs.Told.{Telling, alias, gone, told_of}
 use Rattle.oxt_forms.specs.Forms.{within, same_text, is_empty_object, is_name_again, is_choice, is_one}
 
--- the use of a made name
+-- the tag of the made name as which a name is read of which that is told
+abbrev pub told_tag : Option Telling → Option (List ℕ)
+told_tag (Some (alias t)) = Some t
+told_tag t = None
+
+-- the same of a document
+abbrev pub alias_of : Known → Doc → Option (List ℕ)
+alias_of f (node k i b e ds) = told_tag (told_of f.told i)
+alias_of f d = None
+
+-- the use of a made name, or of a name that is read as one
 abbrev pub is_made_use : Known → Doc → Bool
-is_made_use f d = is_kind kind.IdentifierReference d && is_made f (field_of (codes "name") d)
+is_made_use f d =
+    is_kind kind.IdentifierReference d
+    && (is_some (alias_of f d) || is_made f (field_of (codes "name") d))
+
+-- the tag, or else the spelling
+abbrev pub tag_or : Option (List ℕ) → Doc → Doc
+tag_or None d = d
+tag_or (Some t) d = text t
+
+-- the tag of the made name in such a use
+abbrev pub made_tag : Known → Doc → Doc
+made_tag f d = tag_or (alias_of f d) (field_of (codes "name") d)
 
 -- an assignment by `=` to a made name
 abbrev pub is_keep : Known → Kind → Docs → Bool
@@ -54,9 +75,12 @@ is_base_member f d =
     && (not (is_set (field_of (codes "optional") d))
     && is_made_use f (seen (field_of (codes "object") d)))
 
--- the name `b` in it
+-- the use `b` in it, and its name
+abbrev pub base_object : Doc → Doc
+base_object d = seen (field_of (codes "object") d)
+
 abbrev pub base_name : Doc → Doc
-base_name d = field_of (codes "name") (seen (field_of (codes "object") d))
+base_name d = field_of (codes "name") (base_object d)
 
 -- the text `k` in it
 abbrev pub base_key : Doc → Doc

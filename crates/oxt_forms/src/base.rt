@@ -1,7 +1,7 @@
 //! Objects that stand on a made name under a key.
 ghost use Rattle.std.specs.Prelude.{◌≡◌, ◌&&◌, ◌||◌, codes};
 ghost use Rattle.oxt_forms.specs.Forms.{same_text, within};
-ghost use Rattle.oxt_forms.specs.Made.{base_in, base_key, base_name, is_base_again, is_base_choice, is_base_member, is_found_made_on, is_made_use, makes_base, makes_on};
+ghost use Rattle.oxt_forms.specs.Made.{base_in, base_key, base_name, base_object, is_base_again, is_base_choice, is_base_member, is_found_made_on, is_made_use, makes_base, makes_on};
 ghost use Rattle.oxt_tree.specs.Fields.{field_of, is_kind, named};
 ghost use Rattle.oxt_tree.specs.Inner.{seen};
 ghost use Rattle.oxt_tree.specs.View.{docs_in, doc_or_nil, node_doc, part_doc};
@@ -58,11 +58,18 @@ fn holds_text_literal(node: &Node) -> bool
     }
 }
 
-/// The name `b` in `b.k`.
-pub fn base_name(part: &Part) -> Option<&Part>
+/// The use `b` in `b.k`.
+pub fn base_object(part: &Part) -> Option<&Part>
+    ensures { doc_or_nil result ≡ base_object (part_doc part.now) }
+{
+    within_part(part, Field::Object)
+}
+
+/// The name in `b`.
+fn base_name(part: &Part) -> Option<&Part>
     ensures { doc_or_nil result ≡ base_name (part_doc part.now) }
 {
-    match within_part(part, Field::Object) {
+    match base_object(part) {
         Some(object) => object.field(Field::Name),
         None => None,
     }

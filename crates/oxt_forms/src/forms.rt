@@ -4,11 +4,13 @@ ghost use Rattle.oxt_tree.specs.Fields.{count, first};
 ghost use Rattle.oxt_tree.specs.Inner.{seen};
 ghost use Rattle.oxt_tree.specs.Fields.{elements, field_of, is_empty_list, is_kind, is_nil, is_set, is_text, named};
 ghost use Rattle.oxt_tree.specs.View.{docs_in, doc_or_nil, node_doc, part_doc};
-ghost use Rattle.oxt_forms.specs.Forms.{binding_of, is_argument, is_bare_list, is_bare_parameter, is_called, is_callable, is_bare_name, is_choice, is_empty_object, is_found, is_found_made, is_long, is_name_again, is_one, is_put, makes, same_text, within};
+ghost use Rattle.oxt_forms.specs.Forms.{binding_of, is_argument, is_bare_list, is_bare_parameter, is_called, is_callable, is_bare_name, is_choice, is_empty_object, is_found, is_found_made, is_long, is_name_again, is_one, is_put, leaves_bare, makes, same_text, within};
+ghost use Rattle.oxt_facts.specs.Told.{told_of};
 ghost use Rattle.oxt_grammar.specs.Keys.{key_of};
 
 use oxt_facts::facts::Facts;
 use oxt_facts::item::Binding;
+use oxt_facts::told::Told;
 use oxt_grammar::category::Category;
 use oxt_grammar::field::Field;
 use oxt_grammar::kind::Kind;
@@ -147,9 +149,19 @@ fn is_bare_name(facts: &Facts, part: &Part) -> bool
     ensures { result ≡ is_bare_name facts.now (part_doc part.now) }
 {
     match part {
-        Part::Node(node) => {
-            node.kind.is(Kind::IdentifierReference) && facts.told_of(node.id).is_none()
-        }
+        Part::Node(node) => node.kind.is(Kind::IdentifierReference) && stays_bare(facts, node),
+        _ => false,
+    }
+}
+
+/// Whether what is told of the name leaves it a bare one, which may be a made one or mean another group.
+fn stays_bare(facts: &Facts, node: &Node) -> bool
+    ensures { result ≡ leaves_bare (told_of facts.now.told node.now.id.0) }
+{
+    match facts.told_of(node.id) {
+        None => true,
+        Some(Told::Alias(_)) => true,
+        Some(Told::Inner(_)) => true,
         _ => false,
     }
 }

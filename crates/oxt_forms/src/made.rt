@@ -1,10 +1,11 @@
 //! Forms that are read by a rule of their own where they have made names.
-ghost use Rattle.std.specs.Prelude.{◌≡◌, not, codes};
+ghost use Rattle.std.specs.Prelude.{◌≡◌, not, codes, option_map};
 ghost use Rattle.std.specs.List.{list_any};
 ghost use Rattle.oxt_facts.specs.Facts.{is_made};
 ghost use Rattle.oxt_forms.specs.Forms.{within};
-ghost use Rattle.oxt_forms.specs.Made.{are_silent, is_keep, is_loud, is_made_binding, is_made_use, is_quiet, is_silent, is_silent_declaration, is_silent_declarator, is_told_gone};
+ghost use Rattle.oxt_forms.specs.Made.{alias_of, are_silent, is_keep, is_loud, is_made_binding, is_made_use, is_quiet, is_silent, is_silent_declaration, is_silent_declarator, is_told_gone};
 ghost use Rattle.oxt_tree.specs.Fields.{named};
+ghost use Rattle.oxt_tree.specs.Names.{name_bytes};
 ghost use Rattle.oxt_tree.specs.View.{docs_in, part_doc};
 ghost use Rattle.oxt_grammar.specs.Keys.{key_of};
 
@@ -13,14 +14,31 @@ use oxt_facts::facts::Facts;
 use oxt_facts::told::Told;
 use oxt_grammar::field::Field;
 use oxt_grammar::kind::Kind;
+use oxt_tree::name::Name;
 use oxt_tree::tree::{Node, Part};
 
-/// Whether the part is the use of a made name.
+/// The tag of the made name as which the part is read, by what is told of it.
+pub(crate) fn alias_of<'a>(facts: &'a Facts, part: &Part) -> Option<&'a Name>
+    ensures { option_map (λ tag. name_bytes tag.now) result ≡ alias_of facts.now (part_doc part.now) }
+{
+    match part {
+        Part::Node(node) => match facts.told_of(node.id) {
+            Some(Told::Alias(tag)) => Some(tag),
+            _ => None,
+        },
+        _ => None,
+    }
+}
+
+/// Whether the part is the use of a made name, or of a name that is read as one.
 pub(crate) fn is_made_use(facts: &Facts, part: &Part) -> bool
     ensures { result ≡ is_made_use facts.now (part_doc part.now) }
 {
     match part {
-        Part::Node(node) => node.kind.is(Kind::IdentifierReference) && has_made_name(facts, node),
+        Part::Node(node) => {
+            node.kind.is(Kind::IdentifierReference)
+                && (alias_of(facts, part).is_some() || has_made_name(facts, node))
+        }
         _ => false,
     }
 }

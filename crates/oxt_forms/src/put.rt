@@ -4,7 +4,7 @@ ghost use Rattle.oxt_grammar.specs.Field.{row_view};
 ghost use Rattle.oxt_grammar.specs.Rows.{row_of};
 ghost use Rattle.oxt_tree.specs.Fields.{first};
 ghost use Rattle.oxt_tree.specs.Doc.{flag, nil};
-ghost use Rattle.oxt_tree.specs.Fields.{field_of, named, is_nil};
+ghost use Rattle.oxt_tree.specs.Fields.{named, is_nil};
 ghost use Rattle.oxt_tree.specs.View.{docs_in, doc_or_nil, part_doc};
 ghost use Rattle.oxt_facts.specs.Entry.{atom_doc, detail, detailed, entries, entry_of, lone, owned, spelled};
 ghost use Rattle.oxt_forms.specs.Details.{details, is_atom, is_detail, is_read, start};
@@ -12,11 +12,12 @@ ghost use Rattle.oxt_forms.specs.Leaves.{base_word, bind_word, dropped, ends_kep
 ghost use Rattle.oxt_facts.specs.Facts.{is_made};
 ghost use Rattle.oxt_facts.specs.Inside.{stored_at};
 ghost use Rattle.oxt_forms.specs.Forms.{within};
-ghost use Rattle.oxt_forms.specs.Made.{base_in};
+ghost use Rattle.oxt_forms.specs.Made.{base_in, base_object, made_tag};
 ghost use Rattle.oxt_grammar.specs.Keys.{key_of};
 
-use crate::base::{base_in, base_key, base_name};
+use crate::base::{base_in, base_key, base_object};
 use crate::forms::within;
+use crate::made::alias_of;
 use oxt_facts::facts::Facts;
 use oxt_facts::inside::stored_at;
 use oxt_facts::item::{Atom, Binding, Item, ItemKind};
@@ -309,35 +310,59 @@ pub fn put_in(
     put_owned(group, kind, first_atom(node)?, details, out)
 }
 
-/// The name to which an assignment assigns.
-pub fn target_atom(node: &Node) -> Result<Atom, OutOfMemory>
-    ensures { IfOk result (λ atom. atom_doc atom ≡ detail (field_of (codes "name")
+/// The tag of the made name to which an assignment assigns.
+pub fn target_atom(facts: &Facts, node: &Node) -> Result<Atom, OutOfMemory>
+    ensures { IfOk result (λ atom. atom_doc atom ≡ detail (made_tag facts.now
         (within (codes "left") node.now.kind (docs_in node.now.parts.items)))) }
 {
-    match within(node, Field::Left) {
-        Some(Part::Node(name)) => field_atom(name, Field::Name),
-        _ => Ok(Atom::Nothing),
+    tag_in(facts, within(node, Field::Left))
+}
+
+/// The tag of the made name in the use; nothing where there is none.
+fn tag_in(facts: &Facts, part: Option<&Part>) -> Result<Atom, OutOfMemory>
+    ensures { IfOk result (λ atom. atom_doc atom ≡ detail (made_tag facts.now (doc_or_nil part.entry))) }
+{
+    match part {
+        Some(part) => made_atom(facts, part),
+        None => Ok(Atom::Nothing),
+    }
+}
+
+/// The tag of the made name in the use.
+fn made_atom(facts: &Facts, part: &Part) -> Result<Atom, OutOfMemory>
+    ensures { IfOk result (λ atom. atom_doc atom ≡ detail (made_tag facts.now (part_doc part.now))) }
+{
+    match alias_of(facts, part) {
+        Some(tag) => Ok(Atom::Text(tag.share()?)),
+        None => atom_in(part.field(Field::Name)),
     }
 }
 
 /// Puts the made name and the key of the member `m` in `x || (x = m || (m = {}))`.
-pub fn put_base(alloc: Global, node: &Node, out: &mut Vec<Item>) -> Result<(), OutOfMemory>
+pub fn put_base(facts: &Facts, node: &Node, out: &mut Vec<Item>) -> Result<(), OutOfMemory>
     ensures { OnOk result (entries out.new.items
-        ≡ entries out.old.items ++ base_word (base_in node.now.kind (docs_in node.now.parts.items))) }
+        ≡ entries out.old.items
+        ++ base_word facts.now (base_in node.now.kind (docs_in node.now.parts.items))) }
 {
     match base_in(node) {
-        Some(member) => put_member(alloc, member, out),
-        None => put_member(alloc, &Part::Nothing, out),
+        Some(member) => put_member(facts, member, out),
+        None => put_member(facts, &Part::Nothing, out),
     }
 }
 
 /// Puts the name and the key of the member.
-fn put_member(alloc: Global, member: &Part, out: &mut Vec<Item>) -> Result<(), OutOfMemory>
+fn put_member(facts: &Facts, member: &Part, out: &mut Vec<Item>) -> Result<(), OutOfMemory>
     ensures { OnOk result (entries out.new.items
-        ≡ entries out.old.items ++ base_word (part_doc member.now)) }
+        ≡ entries out.old.items ++ base_word facts.now (part_doc member.now)) }
 {
-    put_spelled(alloc, ItemKind::Made, atom_in(base_name(member))?, out)?;
-    put_spelled(alloc, ItemKind::Str, atom_in(base_key(member))?, out)
+    let tag = tag_in(facts, base_object(member))?;
+    put_spelled(facts.memory(), ItemKind::Made, tag, out)?;
+    put_spelled(
+        facts.memory(),
+        ItemKind::Str,
+        atom_in(base_key(member))?,
+        out,
+    )
 }
 
 /// The text, number or flag itself; nothing where there is none.

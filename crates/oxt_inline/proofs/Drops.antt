@@ -12,12 +12,12 @@ use Rattle.oxt_tree.specs.Syntax.{is_definition_file}
 use Rattle.oxt_tree.specs.declared.ids.NodeId.{NodeId}
 
 -- the set has what is needed
-by_needs : (ns : List ℕ) (s : Scoped) (ks : ℕ → Bool) (d : Doc) (o : TypeScriptData) → ((n : ℕ) → is_in ns n ≡ is_in (needed s ks d o) n) → optimizes o ≡ true → is_definition_file d ≡ false → dropped_by (is_in ns) s d o ≡ dropped s ks d o
-by_needs ns s ks d o same on source =
-    ap (λ p. dropped_by p s d o) (λ j n. same n j)
-    ∙ sym (ap (λ b. cond (b && not (is_definition_file d)) (dropped_by (is_in (needed s ks d o)) s d o) []) on
-    ∙ ap (λ b. cond (not b) (dropped_by (is_in (needed s ks d o)) s d o) []) source)
+by_needs : (ns : List ℕ) (s : Scoped) (ks : ℕ → Bool) (d : Doc) (o : TypeScriptData) (l : Bool) → ((n : ℕ) → is_in ns n ≡ is_in (needed s ks d o l) n) → optimizes o ≡ true → is_definition_file d ≡ false → dropped_by (is_in ns) s d o l ≡ dropped s ks d o l
+by_needs ns s ks d o l same on source =
+    ap (λ p. dropped_by p s d o l) (λ j n. same n j)
+    ∙ sym (ap (λ b. cond (b && not (is_definition_file d)) (dropped_by (is_in (needed s ks d o l)) s d o l) []) on
+    ∙ ap (λ b. cond (not b) (dropped_by (is_in (needed s ks d o l)) s d o l) []) source)
 
-pub ok_by_needs : {E : Type 0} (r : Result (Vec NodeId Global) E) (ns : List ℕ) (s : Scoped) (ks : ℕ → Bool) (d : Doc) (o : TypeScriptData) → ((n : ℕ) → is_in ns n ≡ is_in (needed s ks d o) n) → optimizes o ≡ true → is_definition_file d ≡ false → IfOk r (λ v. numbers_in v.items ≡ dropped_by (is_in ns) s d o) → IfOk r (λ v. numbers_in v.items ≡ dropped s ks d o)
-ok_by_needs (Ok v) ns s ks d o same on source h = h ∙ by_needs ns s ks d o same on source
-ok_by_needs (Err e) ns s ks d o same on source h = h
+pub ok_by_needs : {E : Type 0} (r : Result (Vec NodeId Global) E) (ns : List ℕ) (s : Scoped) (ks : ℕ → Bool) (d : Doc) (o : TypeScriptData) (l : Bool) → ((n : ℕ) → is_in ns n ≡ is_in (needed s ks d o l) n) → optimizes o ≡ true → is_definition_file d ≡ false → IfOk r (λ v. numbers_in v.items ≡ dropped_by (is_in ns) s d o l) → IfOk r (λ v. numbers_in v.items ≡ dropped s ks d o l)
+ok_by_needs (Ok v) ns s ks d o l same on source h = h ∙ by_needs ns s ks d o l same on source
+ok_by_needs (Err e) ns s ks d o l same on source h = h

@@ -21,6 +21,6 @@ inlined_by_table (Ok v) c s ks d o same on h =
     h ∙ ap (λ n. inlined_with n s ks d o) (same_named c s d same) ∙ sym (ap (λ b. cond b (inlined_with (constants_in s d) s ks d o) []) on)
 inlined_by_table (Err e) c s ks d o same on h = h
 
-pub needed_by_table : {E : Type 0} (r : Result (Vec SymbolId Global) E) (c : Named) (s : Scoped) (ks : ℕ → Bool) (d : Doc) (o : TypeScriptData) → ((e : ℕ) (x : List ℕ) → c e x ≡ constants_in s d e x) → IfOk r (λ v. map number_of v.items ≡ needed_with c s ks d o) → IfOk r (λ v. map number_of v.items ≡ needed s ks d o)
-needed_by_table (Ok v) c s ks d o same h = h ∙ ap (λ n. needed_with n s ks d o) (same_named c s d same)
-needed_by_table (Err e) c s ks d o same h = h
+pub needed_by_table : {E : Type 0} (r : Result (Vec SymbolId Global) E) (c : Named) (s : Scoped) (ks : ℕ → Bool) (d : Doc) (o : TypeScriptData) (l : Bool) → ((e : ℕ) (x : List ℕ) → c e x ≡ constants_in s d e x) → IfOk r (λ v. map number_of v.items ≡ needed_with c s ks d o l) → IfOk r (λ v. map number_of v.items ≡ needed s ks d o l)
+needed_by_table (Ok v) c s ks d o l same h = h ∙ ap (λ n. needed_with n s ks d o l) (same_named c s d same)
+needed_by_table (Err e) c s ks d o l same h = h

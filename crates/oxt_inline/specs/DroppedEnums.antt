@@ -12,11 +12,12 @@ use Rattle.oxt_options.specs.Options.{TypeScriptData}
 use Rattle.oxt_scoping.specs.Scoped.{Scoped}
 use Rattle.oxt_search.specs.All.{all_in}
 use Rattle.oxt_search.specs.Sought.{Sought}
+use Rattle.oxt_search.specs.declared.search.Inside.{Inside}
 use Rattle.oxt_search.specs.declared.search.Inside.TheVariants as inside
 use Rattle.oxt_tree.specs.Doc.{Doc, Docs}
 use Rattle.oxt_tree.specs.Fields.{named}
 use Rattle.oxt_tree.specs.Syntax.{is_definition_file}
-use Rattle.oxt_unbuilt.specs.Dropped.{is_dropped_by}
+use Rattle.oxt_unbuilt.specs.Dropped.{inside_dropped_by, is_dropped_by}
 
 -- the enum of that symbol is dropped: its members are inlined, and it is not needed
 abbrev pub goes : Scoped → TypeScriptData → (ℕ → Bool) → Option SymbolId → Bool
@@ -28,20 +29,25 @@ abbrev pub dropped_at : Scoped → TypeScriptData → (ℕ → Bool) → Kind �
 dropped_at s o needs k i ds =
     if same_kind k kind.TSEnumDeclaration && goes s o needs (named_symbol s (named (codes "id") k ds)) then Some i else None
 
--- outside what is erased, each such block
-abbrev pub blocks : Scoped → TypeScriptData → (ℕ → Bool) → Sought (Unit {0}) ℕ
-blocks s o needs =
+-- what is looked at inside a node: nothing of what is erased, of which decorators are no part that are lowered
+abbrev pub inside_of : Bool → Kind → Docs → Inside (Unit {0})
+inside_of legacy k ds = if is_dropped_by k ds then inside_dropped_by legacy k ds tt else inside.Alike tt
+
+-- outside what is erased, each such block; the flag says whether decorators have their older meaning
+abbrev pub blocks : Scoped → TypeScriptData → Bool → (ℕ → Bool) → Sought (Unit {0}) ℕ
+blocks s o legacy needs =
     record {
       at = λ u k i ds. dropped_at s o needs k i ds;
-      inside = λ u k i ds. if is_dropped_by k ds then inside.Skipped else inside.Alike u;
+      inside = λ u k i ds. inside_of legacy k ds;
       in_field = λ u k r. Some u;
     }
 
 -- those of a whole tree, by which symbols it needs
-abbrev pub dropped_by : (ℕ → Bool) → Scoped → Doc → TypeScriptData → List ℕ
-dropped_by needs s d o = all_in (blocks s o needs) d tt
+abbrev pub dropped_by : (ℕ → Bool) → Scoped → Doc → TypeScriptData → Bool → List ℕ
+dropped_by needs s d o legacy = all_in (blocks s o legacy needs) d tt
 
 -- The blocks that are dropped, by which `import a = ..` are kept: none where members of no enum are inlined, and none of a
 -- file of definitions.
-abbrev pub dropped : Scoped → (ℕ → Bool) → Doc → TypeScriptData → List ℕ
-dropped s ks d o = if optimizes o && not (is_definition_file d) then dropped_by (is_in (needed s ks d o)) s d o else []
+abbrev pub dropped : Scoped → (ℕ → Bool) → Doc → TypeScriptData → Bool → List ℕ
+dropped s ks d o legacy =
+    if optimizes o && not (is_definition_file d) then dropped_by (is_in (needed s ks d o legacy)) s d o legacy else []

@@ -28,7 +28,7 @@ use Rattle.oxt_search.specs.declared.search.Inside.{Inside}
 use Rattle.oxt_search.specs.declared.search.Inside.TheVariants as inside
 use Rattle.oxt_tree.specs.Doc.{Doc, node, Docs}
 use Rattle.oxt_tree.specs.Fields.{docs_list, elements, field_of, is_kind, named}
-use Rattle.oxt_unbuilt.specs.Dropped.{is_dropped_by}
+use Rattle.oxt_unbuilt.specs.Dropped.{inside_dropped_by, is_dropped_by}
 
 abbrev pub number_of : SymbolId → ℕ
 number_of i = i.0
@@ -120,10 +120,11 @@ needed_by s q k i ds =
 abbrev pub seat_inside : Scoped → (ℕ → Bool) → Seat → Kind → ℕ → Seat
 seat_inside s ks q k i = if same_kind k kind.TSEnumMember && has_value s i then seat.Constant else seat_by ks q k i
 
--- nothing is left of erased code, and of what is inlined
-abbrev pub inside_of : Scoped → (ℕ → Bool) → Named → TypeScriptData → Seat → Kind → ℕ → Docs → Inside Seat
-inside_of s ks c o q k i ds =
-    if is_dropped_by k ds || is_some (constant_at s c o q k ds) then inside.Skipped
+-- Nothing is left of erased code, and of what is inlined; the flag says whether decorators have their older meaning.
+abbrev pub inside_of : Scoped → (ℕ → Bool) → Named → TypeScriptData → Bool → Seat → Kind → ℕ → Docs → Inside Seat
+inside_of s ks c o legacy q k i ds =
+    if is_dropped_by k ds then inside_dropped_by legacy k ds seat.Value
+    else if is_some (constant_at s c o q k ds) then inside.Skipped
     else inside.ByField (seat_inside s ks q k i)
 
 -- nothing is left of the initializer of a member whose value is known, and of the right side of an `import a = ..` that is
@@ -138,19 +139,19 @@ abbrev pub number_needed : Option SymbolId → Option ℕ
 number_needed None = None
 number_needed (Some i) = Some i.0
 
-abbrev pub sought : Scoped → (ℕ → Bool) → Named → TypeScriptData → Sought Seat ℕ
-sought s ks c o =
+abbrev pub sought : Scoped → (ℕ → Bool) → Named → TypeScriptData → Bool → Sought Seat ℕ
+sought s ks c o legacy =
     record {
       at = λ q k i ds. number_needed (needed_by s q k i ds);
-      inside = inside_of s ks c o;
+      inside = inside_of s ks c o legacy;
       in_field = field_seat;
     }
 
 -- the symbols that a tree needs, by the constants of its members
-abbrev pub needed_with : Named → Scoped → (ℕ → Bool) → Doc → TypeScriptData → List ℕ
-needed_with c s ks d o = all_in (sought s ks c o) d seat.Value
+abbrev pub needed_with : Named → Scoped → (ℕ → Bool) → Doc → TypeScriptData → Bool → List ℕ
+needed_with c s ks d o legacy = all_in (sought s ks c o legacy) d seat.Value
 
 -- The symbols that a tree needs: those that are used as values in what is left of it, and those of enums that cannot be
 -- dropped by what is said of their declarations.
-abbrev pub needed : Scoped → (ℕ → Bool) → Doc → TypeScriptData → List ℕ
-needed s ks d o = needed_with (constants_in s d) s ks d o
+abbrev pub needed : Scoped → (ℕ → Bool) → Doc → TypeScriptData → Bool → List ℕ
+needed s ks d o legacy = needed_with (constants_in s d) s ks d o legacy

@@ -1,6 +1,6 @@
 //! The blocks of enums that are dropped.
 ghost use Rattle.std.specs.Prelude.{◌≡◌, ℕ, IfOk, map, option_map};
-ghost use Rattle.oxt_inline.specs.DroppedEnums.{blocks, dropped, dropped_at, dropped_by, goes};
+ghost use Rattle.oxt_inline.specs.DroppedEnums.{blocks, dropped, dropped_at, dropped_by, goes, inside_of};
 ghost use Rattle.oxt_inline.specs.Needed.{needed, number_of};
 ghost use Rattle.oxt_options.specs.Facts.{is_in};
 ghost use Rattle.oxt_options.specs.Lists.{numbers_in};
@@ -22,13 +22,13 @@ use oxt_search::all::all_in;
 use oxt_search::search::{Inside, Search, Visit};
 use oxt_tree::ids::{NodeId, OutOfMemory};
 use oxt_tree::tree::Node;
-use oxt_unbuilt::dropped::is_dropped;
+use oxt_unbuilt::dropped::{inside_dropped, is_dropped};
 use std::alloc::Global;
 
 /// The blocks, in the order of the text, of the enums that are dropped: members of the enum are inlined, no block of it is
 /// exported or ambient, no declaration of another kind emits code under its name, each of its members is constant and
 /// none is named by a template, and no use of it as a value is left. One in an `import a = ..` is left where that is
-/// `kept`. `scoping` is the table of the program.
+/// `kept`, and under `legacy` one in the decorators of a field with `declare`. `scoping` is the table of the program.
 ///
 /// # Errors
 ///
@@ -39,13 +39,14 @@ pub fn dropped_blocks(
     scoping: &Scoping,
     kept: &NodeList,
     options: &TypeScriptOptions,
+    legacy: bool,
 ) -> Result<Vec<NodeId>, OutOfMemory>
     ensures { IfOk result (λ nodes. numbers_in nodes.items
-        ≡ dropped scoping.now (is_in kept.now) (node_doc program.now) (typescript_view options.now)) }
+        ≡ dropped scoping.now (is_in kept.now) (node_doc program.now) (typescript_view options.now) legacy) }
 {
     if optimizes(options) && !program.is_definition_file() {
-        let needed = needed_set(alloc, program, scoping, kept, options)?;
-        dropped_by(alloc, program, scoping, options, &needed)
+        let needed = needed_set(alloc, program, scoping, kept, options, legacy)?;
+        dropped_by(alloc, program, scoping, options, legacy, &needed)
     } else {
         Ok(Vec::new(alloc))
     }
@@ -58,11 +59,12 @@ fn needed_set(
     scoping: &Scoping,
     kept: &NodeList,
     options: &TypeScriptOptions,
+    legacy: bool,
 ) -> Result<IndexSet<u64>, OutOfMemory>
     ensures { IfOk result (λ set. (n : ℕ) → is_in set.keys n
-        ≡ is_in (needed scoping.now (is_in kept.now) (node_doc program.now) (typescript_view options.now)) n) }
+        ≡ is_in (needed scoping.now (is_in kept.now) (node_doc program.now) (typescript_view options.now) legacy) n) }
 {
-    let symbols = needed_symbols(alloc, program, scoping, kept, options)?;
+    let symbols = needed_symbols(alloc, program, scoping, kept, options, legacy)?;
     set_of(alloc, symbols.as_slice())
 }
 
@@ -80,14 +82,16 @@ fn dropped_by(
     program: &Node,
     scoping: &Scoping,
     options: &TypeScriptOptions,
+    legacy: bool,
     needed: &IndexSet<u64>,
 ) -> Result<Vec<NodeId>, OutOfMemory>
     ensures { IfOk result (λ nodes. numbers_in nodes.items
-        ≡ dropped_by (is_in needed.now.keys) scoping.now (node_doc program.now) (typescript_view options.now)) }
+        ≡ dropped_by (is_in needed.now.keys) scoping.now (node_doc program.now) (typescript_view options.now) legacy) }
 {
     let search = Blocks {
         scoping,
         options,
+        legacy,
         needed,
     };
     all_in(alloc, &search, program, ())
@@ -98,6 +102,7 @@ fn dropped_by(
 struct Blocks<'a> {
     scoping: &'a Scoping,
     options: &'a TypeScriptOptions,
+    legacy: bool,
     needed: &'a IndexSet<u64>,
 }
 
@@ -110,21 +115,28 @@ impl<'a> Search for Blocks<'a> {
 
     ghost view = { λ node. node.0 };
 
-    ghost sought = { λ b. blocks b.scoping.now (typescript_view b.options.now) (is_in b.needed.now.keys) };
+    ghost sought = { λ b. blocks b.scoping.now (typescript_view b.options.now) b.legacy (is_in b.needed.now.keys) };
 
     fn visit(&self, node: &Node, _state: ()) -> Visit<NodeId, ()> {
         Visit {
             found: self.dropped_at(node),
-            inside: if is_dropped(node) {
-                Inside::Skipped
-            } else {
-                Inside::Alike(())
-            },
+            inside: inside_of(self.legacy, node),
         }
     }
 
     fn in_field(&self, _state: (), _kind: Kind, _row: &Row) -> Option<()> {
         Some(())
+    }
+}
+
+/// How the search goes on inside the node: not in what is erased, of which decorators are no part that are lowered.
+fn inside_of(legacy: bool, node: &Node) -> Inside<()>
+    ensures { result ≡ inside_of legacy node.now.kind (docs_in node.now.parts.items) }
+{
+    if is_dropped(node) {
+        inside_dropped(legacy, node, ())
+    } else {
+        Inside::Alike(())
     }
 }
 

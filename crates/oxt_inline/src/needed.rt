@@ -27,13 +27,13 @@ use oxt_search::all::all_in;
 use oxt_search::search::{Inside, Search, Visit};
 use oxt_tree::ids::{NodeId, OutOfMemory};
 use oxt_tree::tree::{Node, Part};
-use oxt_unbuilt::dropped::is_dropped;
+use oxt_unbuilt::dropped::{inside_dropped, is_dropped};
 use std::alloc::Global;
 
 /// The symbols, in the order of the text, that are used as values in what is left of the program once members are
 /// inlined, and those of enums that cannot be dropped: with a block that is exported or ambient, with a member whose
 /// value is not known or that a template names, or with a declaration of another kind that emits code. The right side of
-/// an `import a = ..` is left where that is `kept`.
+/// an `import a = ..` is left where that is `kept`, and under `legacy` so are the decorators of a field with `declare`.
 ///
 /// # Errors
 ///
@@ -44,12 +44,13 @@ pub fn needed_symbols(
     scoping: &Scoping,
     kept: &NodeList,
     options: &TypeScriptOptions,
+    legacy: bool,
 ) -> Result<Vec<SymbolId>, OutOfMemory>
     ensures { IfOk result (λ symbols. map number_of symbols.items
-        ≡ needed scoping.now (is_in kept.now) (node_doc program.now) (typescript_view options.now)) }
+        ≡ needed scoping.now (is_in kept.now) (node_doc program.now) (typescript_view options.now) legacy) }
 {
     let constants = Constants::of(alloc, program, scoping)?;
-    needed_with(alloc, program, scoping, kept, &constants, options)
+    needed_with(alloc, program, scoping, kept, &constants, options, legacy)
 }
 
 /// The same, by the constants of the members.
@@ -60,15 +61,17 @@ fn needed_with(
     kept: &NodeList,
     constants: &Constants<'_>,
     options: &TypeScriptOptions,
+    legacy: bool,
 ) -> Result<Vec<SymbolId>, OutOfMemory>
     ensures { IfOk result (λ symbols. map number_of symbols.items ≡ needed_with (table_at constants.now) scoping.now
-        (is_in kept.now) (node_doc program.now) (typescript_view options.now)) }
+        (is_in kept.now) (node_doc program.now) (typescript_view options.now) legacy) }
 {
     let search = Needs {
         scoping,
         kept,
         constants,
         options,
+        legacy,
     };
     all_in(alloc, &search, program, Seat::Value)
 }
@@ -80,6 +83,7 @@ struct Needs<'a> {
     kept: &'a NodeList,
     constants: &'a Constants<'a>,
     options: &'a TypeScriptOptions,
+    legacy: bool,
 }
 
 impl<'a> Search for Needs<'a> {
@@ -91,7 +95,7 @@ impl<'a> Search for Needs<'a> {
 
     ghost view = { number_of };
 
-    ghost sought = { λ needs. sought needs.scoping.now (is_in needs.kept.now) (table_at needs.constants.now) (typescript_view needs.options.now) };
+    ghost sought = { λ needs. sought needs.scoping.now (is_in needs.kept.now) (table_at needs.constants.now) (typescript_view needs.options.now) needs.legacy };
 
     fn visit(&self, node: &Node, seat: Seat) -> Visit<SymbolId, Seat> {
         Visit {
@@ -109,11 +113,12 @@ impl<'a> Needs<'a> {
     /// How the search goes on inside the node, which stands so: not in erased code, and not in what is inlined.
     fn inside_of(&self, seat: Seat, node: &Node) -> Inside<Seat>
         ensures { result ≡ inside_of self.now.scoping.now (is_in self.now.kept.now) (table_at self.now.constants.now)
-            (typescript_view self.now.options.now) seat node.now.kind node.now.id.0 (docs_in node.now.parts.items) }
+            (typescript_view self.now.options.now) self.now.legacy seat node.now.kind node.now.id.0
+            (docs_in node.now.parts.items) }
     {
-        if is_dropped(node)
-            || constant_at(self.scoping, self.constants, self.options, seat, node).is_some()
-        {
+        if is_dropped(node) {
+            inside_dropped(self.legacy, node, Seat::Value)
+        } else if constant_at(self.scoping, self.constants, self.options, seat, node).is_some() {
             Inside::Skipped
         } else {
             Inside::ByField(seat_inside(self.scoping, self.kept, seat, node))

@@ -2,4 +2,3 @@ pub mod Loops
 pub mod Marks
 pub mod Known
 pub mod Tables
-pub mod Uses

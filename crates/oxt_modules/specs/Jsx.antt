@@ -1,39 +1,58 @@
 -- What a program has of JSX outside erased code, and the names that this uses.
-use Rattle.std.specs.Prelude.{ℕ, List, Bool, false, ◌&&◌, ◌||◌, ◌==◌, if◌then◌else◌}
-use Rattle.std.specs.List.{before_first}
+use Rattle.std.specs.Prelude.{ℕ, List, Bool, true, false, ◌&&◌, ◌||◌, ◌==◌, if◌then◌else◌, Option, None, Some}
+use Rattle.std.specs.List.{before_first, list_any}
 use Rattle.std.specs.Str.{bytes_eq}
+use Rattle.oxt_modules.specs.declared.jsx.JsxNode.{JsxNode}
+use Rattle.oxt_modules.specs.declared.jsx.JsxNode.TheVariants as jsx
 use Rattle.oxt_modules.specs.declared.jsx.JsxUse.{JsxUse}
 use Rattle.oxt_options.specs.Options.{TypeScriptData}
-use Rattle.oxt_grammar.specs.Places.{same_kind}
+use Rattle.oxt_search.specs.All.{all_in}
+use Rattle.oxt_search.specs.Sought.{Sought}
+use Rattle.oxt_search.specs.declared.search.Inside.{Inside}
+use Rattle.oxt_search.specs.declared.search.Inside.TheVariants as inside
 use Rattle.oxt_grammar.specs.declared.kind.Kind.{Kind}
 use Rattle.oxt_grammar.specs.declared.kind.Kind.TheVariants as kind
-use Rattle.oxt_tree.specs.Doc.{Doc, nil, flag, number, text, list, node, Docs, no_docs, doc}
-use Rattle.oxt_unbuilt.specs.Dropped.{is_dropped_by}
+use Rattle.oxt_tree.specs.Doc.{Doc, Docs, text}
+use Rattle.oxt_unbuilt.specs.Dropped.{inside_dropped_by, is_dropped_by}
 
-abbrev pub no_jsx : JsxUse
-no_jsx = record { has_element = false; has_fragment = false }
+-- what a node of that kind is of JSX
+abbrev pub own_node : Kind → Option JsxNode
+own_node kind.JSXElement = Some jsx.Element
+own_node kind.JSXFragment = Some jsx.Fragment
+own_node k = None
 
--- what the one or the other has
-abbrev pub either : JsxUse → JsxUse → JsxUse
-either u v = record { has_element = u.has_element || v.has_element; has_fragment = u.has_fragment || v.has_fragment }
+-- of what is erased nothing is looked at but decorators that are applied all the same
+abbrev pub live_inside : Bool → Unit {0} → Kind → Docs → Inside (Unit {0})
+live_inside legacy u k ds = if is_dropped_by k ds then inside_dropped_by legacy k ds u else inside.Alike u
 
--- what a node of that kind is itself
-abbrev pub own_use : Kind → JsxUse
-own_use k = record { has_element = same_kind k kind.JSXElement; has_fragment = same_kind k kind.JSXFragment }
+-- each element and fragment, outside what is erased
+abbrev pub sought : Bool → Sought (Unit {0}) JsxNode
+sought legacy =
+    record {
+      at = λ u k i ds. own_node k;
+      inside = λ u k i ds. live_inside legacy u k ds;
+      in_field = λ u k r. Some u;
+    }
 
--- Whether a document has an element, and whether it has a fragment, where neither it nor a node around it is erased.
-abbrev mutual
-  pub jsx_use : Doc → JsxUse
-  jsx_use nil = no_jsx
-  jsx_use (flag b) = no_jsx
-  jsx_use (number n) = no_jsx
-  jsx_use (text t) = no_jsx
-  jsx_use (list ds) = each_use ds
-  jsx_use (node k i b e ds) = if is_dropped_by k ds then no_jsx else either (own_use k) (each_use ds)
+-- those of a document
+abbrev pub jsx_nodes : Bool → Doc → List JsxNode
+jsx_nodes legacy d = all_in (sought legacy) d tt
 
-  pub each_use : Docs → JsxUse
-  each_use no_docs = no_jsx
-  each_use (doc d ds) = either (jsx_use d) (each_use ds)
+abbrev pub is_element : JsxNode → Bool
+is_element jsx.Element = true
+is_element jsx.Fragment = false
+
+abbrev pub is_fragment : JsxNode → Bool
+is_fragment jsx.Element = false
+is_fragment jsx.Fragment = true
+
+-- what a document with these nodes has
+abbrev pub use_of : List JsxNode → JsxUse
+use_of ns = record { has_element = list_any is_element ns; has_fragment = list_any is_fragment ns }
+
+-- Whether a document has an element, and whether it has a fragment, outside what is erased.
+abbrev pub jsx_use : Bool → Doc → JsxUse
+jsx_use legacy d = use_of (jsx_nodes legacy d)
 
 -- the text before its first dot, whose code is 46; all of it where it has none
 abbrev pub before_dot : List ℕ → List ℕ

@@ -99,11 +99,11 @@ abbrev pub kept_aliases : Scoped → TypeScriptData → List Alias → List ℕ
 kept_aliases s o [] = []
 kept_aliases s o (a ∷ xs) = kept_if (is_alias_kept s o a) a.node.0 ++ kept_aliases s o xs
 
--- what is kept of a program, of which that is the table
-abbrev pub kept_by : Scoped → Doc → TypeScriptData → List ℕ
-kept_by s d o = kept_in_statements s o (jsx_use d) (elements (field_of (codes "body") d)) ++ kept_aliases s o (aliases d)
+-- what is kept of a program, of which that is the table; the flag says whether decorators have their older meaning
+abbrev pub kept_by : Scoped → Doc → TypeScriptData → Bool → List ℕ
+kept_by s d o legacy = kept_in_statements s o (jsx_use legacy d) (elements (field_of (codes "body") d)) ++ kept_aliases s o (aliases d)
 
 -- What is kept of a program: specifiers, names that are exported by default, and declarations `import a = ..`. Names in the
 -- right sides of those that nothing uses are no uses themselves.
-abbrev pub kept : Scoped → Doc → TypeScriptData → List ℕ
-kept s d o = kept_by (beside (marked s d o) s) d o
+abbrev pub kept : Scoped → Doc → TypeScriptData → Bool → List ℕ
+kept s d o legacy = kept_by (beside (marked s d o) s) d o legacy

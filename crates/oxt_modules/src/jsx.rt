@@ -1,14 +1,20 @@
 //! The names that elements and fragments of JSX use.
-ghost use Rattle.std.specs.Prelude.{◌≡◌, ◌==◌};
-ghost use Rattle.std.specs.List.{before_first};
+ghost use Rattle.std.specs.Prelude.{◌≡◌, ◌==◌, IfOk};
+ghost use Rattle.std.specs.List.{before_first, list_any};
 ghost use Rattle.oxt_options.specs.Options.{typescript_view};
-ghost use Rattle.oxt_modules.specs.Jsx.{before_dot, each_use, either, is_jsx_name, jsx_use, no_jsx, own_use};
-ghost use Rattle.oxt_tree.specs.View.{docs_in, node_doc, part_doc};
+ghost use Rattle.oxt_modules.specs.Jsx.{before_dot, is_element, is_fragment, is_jsx_name, jsx_nodes, jsx_use, live_inside, own_node, sought, use_of};
+ghost use Rattle.oxt_modules.specs.declared.jsx.JsxNode.{JsxNode};
+ghost use Rattle.oxt_tree.specs.View.{docs_in, node_doc};
 
+use oxt_grammar::holds::Row;
 use oxt_grammar::kind::Kind;
 use oxt_options::TypeScriptOptions;
-use oxt_tree::tree::{Node, Part};
-use oxt_unbuilt::dropped::is_dropped;
+use oxt_search::all::all_in;
+use oxt_search::search::{Inside, Search, Visit};
+use oxt_tree::ids::OutOfMemory;
+use oxt_tree::tree::Node;
+use oxt_unbuilt::dropped::{inside_dropped, is_dropped};
+use std::alloc::Global;
 
 /// What a program has of JSX outside erased code.
 #[derive(Clone, Copy, Debug, PartialEq, Eq)]
@@ -19,69 +25,129 @@ pub struct JsxUse {
     pub has_fragment: bool,
 }
 
-/// What the node has of JSX outside erased code.
-#[cycle(jsx)]
-pub fn jsx_use(node: &Node) -> JsxUse
-    ensures { result ≡ jsx_use (node_doc node.now) }
+/// A node by which JSX uses a name.
+#[derive(Clone, Copy, Debug, PartialEq, Eq)]
+pub enum JsxNode {
+    /// An element.
+    Element,
+    /// A fragment.
+    Fragment,
+}
+
+/// What the program has of JSX outside erased code. Under `legacy` the decorators of a field with `declare` are none.
+///
+/// # Errors
+///
+/// Nothing but want of memory.
+pub fn jsx_use(alloc: Global, program: &Node, legacy: bool) -> Result<JsxUse, OutOfMemory>
+    ensures { IfOk result (λ found. found ≡ jsx_use legacy (node_doc program.now)) }
+{
+    let nodes = jsx_nodes(alloc, program, legacy)?;
+    Ok(use_of(nodes.as_slice()))
+}
+
+/// The elements and fragments, in the order of the text.
+#[tactic(auto, using(oxt_search::proofs::Given::as_it_is))]
+fn jsx_nodes(alloc: Global, program: &Node, legacy: bool) -> Result<Vec<JsxNode>, OutOfMemory>
+    ensures { IfOk result (λ nodes. nodes.items ≡ jsx_nodes legacy (node_doc program.now)) }
+{
+    all_in(alloc, &JsxNodes { legacy }, program, ())
+}
+
+/// The search for them.
+#[derive(Clone, Copy)]
+struct JsxNodes {
+    /// Whether decorators have TypeScript's older meaning.
+    legacy: bool,
+}
+
+impl Search for JsxNodes {
+    type State = ();
+
+    type Found = JsxNode;
+
+    ghost Seen = { JsxNode };
+
+    ghost view = { λ node. node };
+
+    ghost sought = { λ nodes. sought nodes.legacy };
+
+    #[tactic(auto, using(oxt_search::proofs::Given::as_it_is))]
+    fn visit(&self, node: &Node, state: ()) -> Visit<JsxNode, ()> {
+        Visit {
+            found: own_node(node.kind),
+            inside: live_inside(self.legacy, node, state),
+        }
+    }
+
+    fn in_field(&self, _state: (), _kind: Kind, _row: &Row) -> Option<()> {
+        Some(())
+    }
+}
+
+/// What is looked at inside the node: of what is erased nothing but decorators that are applied all the same.
+fn live_inside(legacy: bool, node: &Node, state: ()) -> Inside<()>
+    ensures { result ≡ live_inside legacy state node.now.kind (docs_in node.now.parts.items) }
 {
     if is_dropped(node) {
-        return no_jsx();
+        inside_dropped(legacy, node, state)
+    } else {
+        Inside::Alike(state)
     }
-    either(own_use(node.kind), each_use(node.parts.as_slice()))
 }
 
-/// What the part has of it.
-#[cycle(jsx)]
-fn part_use(part: &Part) -> JsxUse
-    ensures { result ≡ jsx_use (part_doc part.now) }
+/// What a node of that kind is of JSX.
+fn own_node(kind: Kind) -> Option<JsxNode>
+    ensures { result ≡ own_node kind }
 {
-    match part {
-        Part::Node(node) => jsx_use(node),
-        Part::List(parts) => each_use(parts.as_slice()),
-        _ => no_jsx(),
+    match kind {
+        Kind::JSXElement => Some(JsxNode::Element),
+        Kind::JSXFragment => Some(JsxNode::Fragment),
+        _ => None,
     }
 }
 
-/// What the parts have of it.
-#[tactic(auto, using(crate::proofs::Uses::use_steps))]
-#[cycle(jsx)]
-fn each_use(parts: &[Part]) -> JsxUse
-    ensures { result ≡ each_use (docs_in parts.now) }
-{
-    let mut found = no_jsx();
-    for part in parts {
-        found = either(found, part_use(part));
-    }
-    found
-}
-
-/// Neither an element nor a fragment.
-fn no_jsx() -> JsxUse
-    ensures { result ≡ no_jsx }
+/// What a program with these nodes has.
+fn use_of(nodes: &[JsxNode]) -> JsxUse
+    ensures { result ≡ use_of nodes.now }
 {
     JsxUse {
-        has_element: false,
-        has_fragment: false,
+        has_element: has_element(nodes),
+        has_fragment: has_fragment(nodes),
     }
 }
 
-/// What a node of that kind is itself.
-fn own_use(kind: Kind) -> JsxUse
-    ensures { result ≡ own_use kind }
+/// Whether one of the nodes is an element.
+fn has_element(nodes: &[JsxNode]) -> bool
+    ensures { result ≡ list_any is_element nodes.now }
 {
-    JsxUse {
-        has_element: kind.is(Kind::JSXElement),
-        has_fragment: kind.is(Kind::JSXFragment),
+    nodes.iter().any(|node| is_element(*node))
+}
+
+/// Whether one of the nodes is a fragment.
+fn has_fragment(nodes: &[JsxNode]) -> bool
+    ensures { result ≡ list_any is_fragment nodes.now }
+{
+    nodes.iter().any(|node| is_fragment(*node))
+}
+
+/// Whether the node is an element.
+fn is_element(node: JsxNode) -> bool
+    ensures { result ≡ is_element node }
+{
+    match node {
+        JsxNode::Element => true,
+        JsxNode::Fragment => false,
     }
 }
 
-/// What the one or the other has.
-fn either(one: JsxUse, other: JsxUse) -> JsxUse
-    ensures { result ≡ either one other }
+/// Whether the node is a fragment.
+fn is_fragment(node: JsxNode) -> bool
+    ensures { result ≡ is_fragment node }
 {
-    JsxUse {
-        has_element: one.has_element || other.has_element,
-        has_fragment: one.has_fragment || other.has_fragment,
+    match node {
+        JsxNode::Element => false,
+        JsxNode::Fragment => true,
     }
 }
 

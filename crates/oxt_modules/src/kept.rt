@@ -35,7 +35,7 @@ pub enum Place {
 
 /// The numbers of the import and export specifiers that are kept, in the order of the text, with those of the names that
 /// `export default` exports and keeps, and behind them those of the declarations `import a = ..` that are kept. `scoping`
-/// is the table of the program.
+/// is the table of the program, and `legacy` says whether decorators have TypeScript's older meaning.
 ///
 /// # Errors
 ///
@@ -45,13 +45,14 @@ pub fn kept_nodes(
     program: &Node,
     scoping: &Scoping,
     options: &TypeScriptOptions,
+    legacy: bool,
 ) -> Result<NodeList, OutOfMemory>
     ensures { IfOk result (λ nodes. nodes
-        ≡ kept scoping.now (node_doc program.now) (typescript_view options.now)) }
+        ≡ kept scoping.now (node_doc program.now) (typescript_view options.now) legacy) }
 {
     let marked = marked_names(alloc, program, scoping, options)?;
     let symbols = Symbols::of(alloc, scoping, marked)?;
-    let nodes = kept_by(alloc, program, &symbols, options)?;
+    let nodes = kept_by(alloc, program, &symbols, options, legacy)?;
     NodeList::of(alloc, nodes)
 }
 
@@ -61,12 +62,13 @@ fn kept_by(
     program: &Node,
     symbols: &Symbols,
     options: &TypeScriptOptions,
+    legacy: bool,
 ) -> Result<Vec<NodeId>, OutOfMemory>
     requires { IsAnswered symbols.now }
     ensures { IfOk result (λ nodes. numbers_in nodes.items
-        ≡ kept_by (table_of symbols.now) (node_doc program.now) (typescript_view options.now)) }
+        ≡ kept_by (table_of symbols.now) (node_doc program.now) (typescript_view options.now) legacy) }
 {
-    let jsx = jsx_use(program);
+    let jsx = jsx_use(alloc, program, legacy)?;
     let aliases = aliases_of(alloc, program)?;
     let mut out = Vec::new(alloc);
     push_statements(symbols, options, jsx, program.list(Field::Body), &mut out)?;

@@ -3,8 +3,8 @@ use denote.Ref.{Bor}
 use Rattle.std.proofs.Common.{◌≡◌, refl, sym, ap, ◌∙◌, ℕ, List, [], ◌∷◌, Bool, true, false, cond, nat_eq, Option, None, Some, option_map}
 use Rattle.std.specs.Map.{lookup, update, update_all}
 use Rattle.std.specs.Option.{option_copied, option_or}
-use Rattle.oxt_options.specs.Facts.{constant_at, last_constant}
-use Rattle.oxt_options.specs.Lists.{by_number, constants_in}
+use Rattle.oxt_options.specs.Facts.{alias_at, constant_at, last_alias, last_constant}
+use Rattle.oxt_options.specs.Lists.{by_number, constants_in, pairs_in}
 use Rattle.oxt_options.specs.Seen.{constants_of}
 use Rattle.oxt_names.specs.Constant.{Constant, constant_view}
 use Rattle.oxt_names.specs.declared.constant.ConstantValue.{ConstantValue}
@@ -49,3 +49,27 @@ pub all_put : (cs : List (NodeId × ConstantValue)) (es : List (ℕ × ConstantV
     → (n : ℕ) → constant_at (constants_of es) n ≡ last_constant (constants_in cs) n
 all_put cs es put n =
     sym (constant_found es n) ∙ ap (option_map constant_view) (put n) ∙ all_over cs (λ _. None) n ∙ or_none (last_constant (constants_in cs) n)
+
+-- one more class over those that stood
+alias_over : (o : Option ℕ) (b : Bool) (v : ℕ) (p : Option ℕ) → option_or o (cond b (Some v) p) ≡ option_or (option_or o (cond b (Some v) None)) p
+alias_over (Some w) b v p = refl
+alias_over None true v p = refl
+alias_over None false v p = refl
+
+-- classes put in turn over those that stood
+aliases_over : (cs : List (ℕ × ℕ)) (f : ℕ → Option ℕ) (n : ℕ) → update_all nat_eq f cs n ≡ option_or (last_alias cs n) (f n)
+aliases_over [] f n = refl
+aliases_over (c ∷ cs) f n =
+    aliases_over cs (update nat_eq f c.0 (Some c.1)) n ∙ alias_over (last_alias cs n) (nat_eq c.0 n) c.1 (f n)
+
+no_alias : (o : Option ℕ) → option_or o None ≡ o
+no_alias (Some w) = refl
+no_alias None = refl
+
+-- A table into which classes were put in turn has the last of each node.
+pub aliases_put : (cs : List (ℕ × ℕ)) (es : List (ℕ × ℕ))
+    → ((n : ℕ) → lookup (nat_eq n) es ≡ update_all nat_eq (λ _. None) cs n)
+    → (n : ℕ) → alias_at es n ≡ last_alias cs n
+aliases_put cs es put n = put n ∙ aliases_over cs (λ _. None) n ∙ no_alias (last_alias cs n)
+
+pub ruleset put_in_turn = (all_put, aliases_put)

@@ -6,17 +6,19 @@ use Rattle.std.specs.Option.{option_or}
 use Rattle.oxt_names.specs.Constant.{Constant}
 
 -- the specifiers that are kept, the blocks that are first, the blocks that are dropped, the expressions
--- that are inlined with their constants, and the references to names that nothing writes to
+-- that are inlined with their constants, the references to names that nothing writes to, and those that are read as the
+-- alias of a decorated class, with the class
 pub record Facts : Type 0 where
   pub kept : List ℕ
   pub first : List ℕ
   pub dropped : List ℕ
   pub inlined : List (ℕ × Constant)
   pub never_written : List ℕ
+  pub aliases : List (ℕ × ℕ)
 
 -- nothing is known
 abbrev pub no_facts : Facts
-no_facts = record { kept = []; first = []; dropped = []; inlined = []; never_written = [] }
+no_facts = record { kept = []; first = []; dropped = []; inlined = []; never_written = []; aliases = [] }
 
 -- the number is one of the list
 abbrev pub is_in : List ℕ → ℕ → Bool
@@ -31,6 +33,15 @@ abbrev pub last_constant : List (ℕ × Constant) → ℕ → Option Constant
 last_constant [] n = None
 last_constant (c ∷ cs) n = option_or (last_constant cs n) (if nat_eq c.0 n then Some c.1 else None)
 
+-- the class that the list has for the number
+abbrev pub alias_at : List (ℕ × ℕ) → ℕ → Option ℕ
+alias_at cs n = lookup (nat_eq n) cs
+
+-- the last class that a list has for the number, where it may have several
+abbrev pub last_alias : List (ℕ × ℕ) → ℕ → Option ℕ
+last_alias [] n = None
+last_alias (c ∷ cs) n = option_or (last_alias cs n) (if nat_eq c.0 n then Some c.1 else None)
+
 -- of each node the one knows what the other has in its lists
 pub record Answers (known listed : Facts) : Type 0 where
   pub kept : (n : ℕ) → is_in known.kept n ≡ is_in listed.kept n
@@ -38,3 +49,4 @@ pub record Answers (known listed : Facts) : Type 0 where
   pub dropped : (n : ℕ) → is_in known.dropped n ≡ is_in listed.dropped n
   pub inlined : (n : ℕ) → constant_at known.inlined n ≡ last_constant listed.inlined n
   pub never_written : (n : ℕ) → is_in known.never_written n ≡ is_in listed.never_written n
+  pub aliases : (n : ℕ) → alias_at known.aliases n ≡ last_alias listed.aliases n

@@ -18,6 +18,10 @@ by_number cs = map (λ c. (c.0.0, c.1)) cs
 abbrev pub constants_in : List (NodeId × ConstantValue) → List (ℕ × Constant)
 constants_in cs = map (λ c. (c.0.0, constant_view c.1)) cs
 
+-- the references with their classes, by number
+abbrev pub pairs_in : List (NodeId × NodeId) → List (ℕ × ℕ)
+pairs_in cs = map (λ c. (c.0.0, c.1.0)) cs
+
 -- the lists by number
 abbrev pub facts_in : PlanLists → Facts
 facts_in l =
@@ -27,4 +31,5 @@ facts_in l =
       dropped = numbers_in l.dropped.items;
       inlined = constants_in l.inlined.items;
       never_written = numbers_in l.never_written.items;
+      aliases = pairs_in l.aliases.items;
     }

@@ -20,6 +20,8 @@ pub struct PlanLists {
     pub inlined: Vec<(NodeId, ConstantValue)>,
     /// References to names that nothing writes to.
     pub never_written: Vec<NodeId>,
+    /// References that are read as the alias of a decorated class, with the class.
+    pub aliases: Vec<(NodeId, NodeId)>,
 }
 
 impl PlanLists {
@@ -33,6 +35,7 @@ impl PlanLists {
             dropped: Vec::new(alloc),
             inlined: Vec::new(alloc),
             never_written: Vec::new(alloc),
+            aliases: Vec::new(alloc),
         }
     }
 }

@@ -1,9 +1,9 @@
 //! The plan: what the passes ask of nodes of the source, by their numbers.
-ghost use Rattle.std.specs.Prelude.{◌≡◌, ℕ, IfOk, None, nat_eq, option_map};
+ghost use Rattle.std.specs.Prelude.{◌≡◌, ℕ, IfOk, None, OnErr, OnOk, nat_eq, option_map};
 ghost use Rattle.std.specs.Map.{lookup, update_all};
 ghost use Rattle.oxt_names.specs.Constant.{constant_view};
-ghost use Rattle.oxt_options.specs.Facts.{Answers, constant_at, is_in, no_facts};
-ghost use Rattle.oxt_options.specs.Lists.{by_number, facts_in, numbers_in};
+ghost use Rattle.oxt_options.specs.Facts.{Answers, alias_at, constant_at, is_in, last_alias, no_facts};
+ghost use Rattle.oxt_options.specs.Lists.{by_number, facts_in, numbers_in, pairs_in};
 
 use crate::lists::PlanLists;
 use indexmap::{IndexMap, IndexSet};
@@ -20,6 +20,7 @@ pub struct Plan {
     dropped: IndexSet<u64>,
     inlined: IndexMap<u64, ConstantValue>,
     never_written: IndexSet<u64>,
+    aliases: IndexMap<u64, u64>,
 }
 
 impl Model for Plan {
@@ -28,7 +29,7 @@ impl Model for Plan {
 
     ghost Value = { Facts };
 
-    ghost view = { λ p. record { kept = p.kept.keys; first = p.first.keys; dropped = p.dropped.keys; inlined = constants_of p.inlined.entries; never_written = p.never_written.keys } };
+    ghost view = { λ p. record { kept = p.kept.keys; first = p.first.keys; dropped = p.dropped.keys; inlined = constants_of p.inlined.entries; never_written = p.never_written.keys; aliases = p.aliases.entries } };
 }
 
 impl Plan {
@@ -42,11 +43,12 @@ impl Plan {
             dropped: IndexSet::new(alloc),
             inlined: IndexMap::new(alloc),
             never_written: IndexSet::new(alloc),
+            aliases: IndexMap::new(alloc),
         }
     }
 
-    /// The plan with these lists. Of several constants of one expression it has the last.
-    #[tactic(auto, using(crate::proofs::Tables::all_put))]
+    /// The plan with these lists. Of several constants of one expression, or classes of one reference, it has the last.
+    #[tactic(auto, using(crate::proofs::Tables::put_in_turn))]
     pub fn new(alloc: Global, lists: PlanLists) -> Result<Plan, OutOfMemory>
         ensures { IfOk result (λ plan. Answers plan (facts_in lists)) }
     {
@@ -56,7 +58,28 @@ impl Plan {
             dropped: set_of(alloc, lists.dropped.as_slice())?,
             inlined: map_of(alloc, lists.inlined)?,
             never_written: set_of(alloc, lists.never_written.as_slice())?,
+            aliases: classes_of(alloc, lists.aliases)?,
         })
+    }
+
+    /// Puts these classes of references in place of those that the plan had. Of several classes of one reference it has the
+    /// last.
+    ///
+    /// # Errors
+    ///
+    /// Fails only where memory runs out; the plan is then unchanged.
+    #[tactic(auto, using(crate::proofs::Tables::put_in_turn))]
+    pub fn set_aliases(
+        &mut self,
+        alloc: Global,
+        aliases: Vec<(NodeId, NodeId)>,
+    ) -> Result<(), OutOfMemory>
+        ensures put { OnOk result ((n : ℕ) → alias_at self.new.aliases n ≡ last_alias (pairs_in aliases.items) n) }
+        ensures others { self.new ≡ record self.old { aliases = self.new.aliases } }
+        ensures kept { OnErr result (self.new ≡ self.old) }
+    {
+        self.aliases = classes_of(alloc, aliases)?;
+        Ok(())
     }
 
     /// Whether the node is an import specifier, `import =` or export specifier that is kept.
@@ -94,6 +117,16 @@ impl Plan {
     {
         self.never_written.contains(&node.0)
     }
+
+    /// The decorated class as whose alias the reference is read.
+    pub fn alias_of(&self, node: NodeId) -> Option<NodeId>
+        ensures { option_map (λ class. class.0) result ≡ alias_at self.now.aliases node.0 }
+    {
+        match self.aliases.get(&node.0) {
+            Some(class) => Some(NodeId(*class)),
+            None => None,
+        }
+    }
 }
 
 /// The numbers of the nodes.
@@ -114,6 +147,21 @@ fn map_of(
         constants
             .into_iter()
             .map(|(node, value)| (node.0, value))
+            .collect(alloc)?,
+    )
+}
+
+/// The numbers of classes by those of their references.
+fn classes_of(
+    alloc: Global,
+    aliases: Vec<(NodeId, NodeId)>,
+) -> Result<IndexMap<u64, u64>, OutOfMemory>
+    ensures { IfOk result (λ table. (n : ℕ) → lookup (nat_eq n) table.entries ≡ update_all nat_eq (λ _. None) (pairs_in aliases.items) n) }
+{
+    Ok(
+        aliases
+            .into_iter()
+            .map(|(node, class)| (node.0, class.0))
             .collect(alloc)?,
     )
 }

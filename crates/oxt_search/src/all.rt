@@ -1,12 +1,16 @@
 //! All that nodes give.
 ghost use Rattle.std.specs.Prelude.{◌≡◌, ◌++◌, IfOk, OnOk, map, option_map};
-ghost use Rattle.oxt_search.specs.All.{all_among, all_below, all_in, given, given_in};
+ghost use Rattle.oxt_search.specs.All.{all_among, all_at, all_below, all_in, given, given_in};
 ghost use Rattle.oxt_grammar.specs.Field.{row_view};
-ghost use Rattle.oxt_tree.specs.View.{docs_in, node_doc, part_doc};
+ghost use Rattle.oxt_grammar.specs.Keys.{key_of};
+ghost use Rattle.oxt_tree.specs.View.{doc_of_part, docs_in, node_doc, part_doc};
+ghost use Rattle.std.specs.List.{slice_get};
 
 use crate::search::{Inside, Search, Visit};
+use oxt_grammar::field::Field;
 use oxt_grammar::holds::Row;
 use oxt_grammar::kind::Kind;
+use oxt_tree::fields::place_of;
 use oxt_tree::ids::OutOfMemory;
 use oxt_tree::tree::{Node, Part};
 use std::alloc::Global;
@@ -55,6 +59,14 @@ pub fn push_all<S: Search>(
             node.kind,
             node.kind.rows(),
             node.parts.as_slice(),
+            state,
+            out,
+        ),
+        Inside::Only(field, state) => push_alone(
+            search,
+            node.kind.rows(),
+            node.parts.as_slice(),
+            field,
             state,
             out,
         ),
@@ -149,6 +161,45 @@ fn push_field<S: Search>(
 {
     match search.in_field(state, kind, row) {
         Some(state) => push_part(search, part, state, out),
+        None => Ok(()),
+    }
+}
+
+/// Appends what that field of a node with these rows and parts gives.
+#[tactic(auto, using(crate::proofs::Alone::alone_steps))]
+#[cycle(all)]
+fn push_alone<S: Search>(
+    search: &S,
+    rows: &[Row],
+    parts: &[Part],
+    field: Field,
+    state: S::State,
+    out: &mut Vec<S::Found>,
+) -> Result<(), OutOfMemory>
+    ensures { OnOk result (map S.view out.new.items ≡ map S.view out.old.items
+        ++ all_at (S.sought search.now) (docs_in parts.now) (map row_view rows.now) (key_of field) state) }
+{
+    match place_of(rows, field) {
+        Some(place) => push_at(search, parts, place, state, out),
+        None => Ok(()),
+    }
+}
+
+/// Appends what the part at that place gives.
+#[tactic(auto, using(crate::proofs::Alone::nothing_there))]
+#[cycle(all)]
+fn push_at<S: Search>(
+    search: &S,
+    parts: &[Part],
+    place: usize,
+    state: S::State,
+    out: &mut Vec<S::Found>,
+) -> Result<(), OutOfMemory>
+    ensures { OnOk result (map S.view out.new.items ≡ map S.view out.old.items
+        ++ all_in (S.sought search.now) (doc_of_part (slice_get parts.now place)) state) }
+{
+    match parts.get(place) {
+        Some(part) => push_part(search, part, state, out),
         None => Ok(()),
     }
 }

@@ -1,13 +1,17 @@
 //! The first that nodes give.
 ghost use Rattle.std.specs.Prelude.{◌≡◌, map, option_map};
-ghost use Rattle.oxt_search.specs.All.{all_below, all_in, given_in};
+ghost use Rattle.oxt_search.specs.All.{all_at, all_below, all_in, given_in};
 ghost use Rattle.oxt_search.specs.First.{first, first_among, first_in};
 ghost use Rattle.oxt_grammar.specs.Field.{row_view};
-ghost use Rattle.oxt_tree.specs.View.{docs_in, node_doc, part_doc};
+ghost use Rattle.oxt_grammar.specs.Keys.{key_of};
+ghost use Rattle.oxt_tree.specs.View.{doc_of_part, docs_in, node_doc, part_doc};
+ghost use Rattle.std.specs.List.{slice_get};
 
 use crate::search::{Inside, Search, Visit};
+use oxt_grammar::field::Field;
 use oxt_grammar::holds::Row;
 use oxt_grammar::kind::Kind;
+use oxt_tree::fields::place_of;
 use oxt_tree::tree::{Node, Part};
 
 /// The first that the node or one in it gives, where a node comes before those in its fields, and these in the
@@ -28,6 +32,13 @@ pub fn first_in<S: Search>(search: &S, node: &Node, state: S::State) -> Option<S
             node.kind,
             node.kind.rows(),
             node.parts.as_slice(),
+            state,
+        ),
+        Inside::Only(field, state) => first_alone(
+            search,
+            node.kind.rows(),
+            node.parts.as_slice(),
+            field,
             state,
         ),
     }
@@ -94,4 +105,40 @@ fn first_in_field<S: Search>(
 {
     let state = search.in_field(state, kind, row)?;
     first_in_part(search, part, state)
+}
+
+/// The first that that field of a node with these rows and parts gives.
+#[tactic(auto, using(crate::proofs::Alone::first_alone_steps))]
+#[cycle(first)]
+fn first_alone<S: Search>(
+    search: &S,
+    rows: &[Row],
+    parts: &[Part],
+    field: Field,
+    state: S::State,
+) -> Option<S::Found>
+    ensures { option_map S.view result
+        ≡ first (all_at (S.sought search.now) (docs_in parts.now) (map row_view rows.now) (key_of field) state) }
+{
+    match place_of(rows, field) {
+        Some(place) => first_at(search, parts, place, state),
+        None => None,
+    }
+}
+
+/// The first that the part at that place gives.
+#[cycle(first)]
+fn first_at<S: Search>(
+    search: &S,
+    parts: &[Part],
+    place: usize,
+    state: S::State,
+) -> Option<S::Found>
+    ensures { option_map S.view result
+        ≡ first (all_in (S.sought search.now) (doc_of_part (slice_get parts.now place)) state) }
+{
+    match parts.get(place) {
+        Some(part) => first_in_part(search, part, state),
+        None => None,
+    }
 }

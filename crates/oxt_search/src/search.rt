@@ -8,6 +8,7 @@ ghost use Rattle.oxt_search.specs.Sought.{Sought};
 ghost use Rattle.oxt_grammar.specs.Field.{row_view};
 ghost use Rattle.oxt_tree.specs.View.{docs_in};
 
+use oxt_grammar::field::Field;
 use oxt_grammar::holds::Row;
 use oxt_grammar::kind::Kind;
 use oxt_tree::tree::Node;
@@ -21,6 +22,8 @@ pub enum Inside<S> {
     Alike(S),
     /// Each field in a state of its own, which follows from that one.
     ByField(S),
+    /// What that field holds alone, in that state.
+    Only(Field, S),
 }
 
 /// What a search says of a node.

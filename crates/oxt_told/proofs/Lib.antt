@@ -1,7 +1,10 @@
+pub mod Applying
+pub mod Callers
 pub mod Choices
 pub mod Elements
 pub mod Found
 pub mod Grouped
 pub mod Loops
+pub mod Naming
 pub mod Nested
 pub mod Taking

@@ -23,6 +23,10 @@ told_both ts mid new xs bs first second = second ∙ ap (λ x. all_told x bs) fi
 pub told_three : (ts one two new xs bs cs : Tellings) → one ≡ all_told ts xs → two ≡ all_told one bs → new ≡ all_told two cs → new ≡ all_told ts (xs ++ (bs ++ cs))
 told_three ts one two new xs bs cs first second third = told_both ts one new xs (bs ++ cs) first (told_both one two new bs cs second third)
 
+pub told_four : (ts one two three new xs bs cs ds : Tellings) → one ≡ all_told ts xs → two ≡ all_told one bs → three ≡ all_told two cs → new ≡ all_told three ds
+    → new ≡ all_told ts (xs ++ (bs ++ (cs ++ ds)))
+told_four ts one two three new xs bs cs ds first second third fourth = told_both ts one new xs (bs ++ (cs ++ ds)) first (told_three one two three new bs cs ds second third fourth)
+
 -- ---- forms of texts
 
 pub form_more : (ps : List Part) (i : ℕ) (p : Part) → i < length ps → p ≡ get_or ps i p → some_text_form (docs_in (drop i ps)) ≡ (is_text_form (part_doc p) || some_text_form (docs_in (drop (i + 1) ps)))

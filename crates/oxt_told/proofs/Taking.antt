@@ -9,6 +9,7 @@ use Rattle.std.specs.List.{list_any}
 use Rattle.std.specs.Prelude.{if◌then◌else◌}
 use Rattle.std.specs.Str.{bytes_eq}
 use Rattle.indexmap.specs.IndexSet.{insert_key}
+use Rattle.oxt_fields.specs.Rules.{Rules}
 use Rattle.oxt_names.specs.Made.{is_among}
 use Rattle.oxt_told.specs.Classes.{free_names, is_name, is_own_name, own_name}
 use Rattle.oxt_told.specs.Taken.{free_name, taken_more, texts_in}
@@ -96,23 +97,23 @@ pub not_noted : (n : Option (Bor (List ℕ))) (ks : List (Bor (List ℕ))) → N
     → (t : List ℕ) → is_among t (texts_in ks) ≡ (is_among t (texts_in ks) || is_name (option_map (λ x. x.now) n) t)
 not_noted n ks none t = sym (or-false (is_among t (texts_in ks))) ∙ ap (λ x. is_among t (texts_in ks) || is_name (option_map (λ y. y.now) x) t) none
 
-pub own_none : (ps : List Part) (ks : List (Bor (List ℕ))) → ks ≡ [] → (t : List ℕ) → is_own_name (docs_in ps) t ≡ (is_among t (texts_in ks) || is_own_name (docs_in ps) t)
-own_none ps ks empty t = ap (λ x. is_among t (texts_in x) || is_own_name (docs_in ps) t) (sym empty)
+pub own_none : (r : Rules) (ps : List Part) (ks : List (Bor (List ℕ))) → ks ≡ [] → (t : List ℕ) → is_own_name r (docs_in ps) t ≡ (is_among t (texts_in ks) || is_own_name r (docs_in ps) t)
+own_none r ps ks empty t = ap (λ x. is_among t (texts_in x) || is_own_name r (docs_in ps) t) (sym empty)
 
-pub own_more : (whole : List ℕ → Bool) (ps : List Part) (i : ℕ) (p : Part) (old new : List (Bor (List ℕ))) → i < length ps → p ≡ get_or ps i p
-    → ((t : List ℕ) → is_among t (texts_in new) ≡ (is_among t (texts_in old) || is_name (own_name (part_doc p)) t))
-    → ((t : List ℕ) → whole t ≡ (is_among t (texts_in old) || is_own_name (docs_in (drop i ps)) t))
-    → (t : List ℕ) → whole t ≡ (is_among t (texts_in new) || is_own_name (docs_in (drop (i + 1) ps)) t)
-own_more whole ps i p old new within at is so_far t =
-    so_far t ∙ ap (λ qs. is_among t (texts_in old) || is_own_name (docs_in qs) t) (drop_at ps i p within at)
-    ∙ or_assoc (is_among t (texts_in old)) (is_name (own_name (part_doc p)) t) (is_own_name (docs_in (drop (i + 1) ps)) t)
-    ∙ ap (λ b. b || is_own_name (docs_in (drop (i + 1) ps)) t) (sym (is t))
+pub own_more : (r : Rules) (whole : List ℕ → Bool) (ps : List Part) (i : ℕ) (p : Part) (old new : List (Bor (List ℕ))) → i < length ps → p ≡ get_or ps i p
+    → ((t : List ℕ) → is_among t (texts_in new) ≡ (is_among t (texts_in old) || is_name (own_name r (part_doc p)) t))
+    → ((t : List ℕ) → whole t ≡ (is_among t (texts_in old) || is_own_name r (docs_in (drop i ps)) t))
+    → (t : List ℕ) → whole t ≡ (is_among t (texts_in new) || is_own_name r (docs_in (drop (i + 1) ps)) t)
+own_more r whole ps i p old new within at is so_far t =
+    so_far t ∙ ap (λ qs. is_among t (texts_in old) || is_own_name r (docs_in qs) t) (drop_at ps i p within at)
+    ∙ or_assoc (is_among t (texts_in old)) (is_name (own_name r (part_doc p)) t) (is_own_name r (docs_in (drop (i + 1) ps)) t)
+    ∙ ap (λ b. b || is_own_name r (docs_in (drop (i + 1) ps)) t) (sym (is t))
 
-pub own_done : (whole : List ℕ → Bool) (ps : List Part) (i : ℕ) (ks : List (Bor (List ℕ))) → length ps ≤ i
-    → ((t : List ℕ) → whole t ≡ (is_among t (texts_in ks) || is_own_name (docs_in (drop i ps)) t))
+pub own_done : (r : Rules) (whole : List ℕ → Bool) (ps : List Part) (i : ℕ) (ks : List (Bor (List ℕ))) → length ps ≤ i
+    → ((t : List ℕ) → whole t ≡ (is_among t (texts_in ks) || is_own_name r (docs_in (drop i ps)) t))
     → (t : List ℕ) → is_among t (texts_in ks) ≡ whole t
-own_done whole ps i ks past so_far t =
-    sym (so_far t ∙ ap (λ qs. is_among t (texts_in ks) || is_own_name (docs_in qs) t) (drop_end ps i past) ∙ or-false (is_among t (texts_in ks)))
+own_done r whole ps i ks past so_far t =
+    sym (so_far t ∙ ap (λ qs. is_among t (texts_in ks) || is_own_name r (docs_in qs) t) (drop_end ps i past) ∙ or-false (is_among t (texts_in ks)))
 
 pub ruleset own_steps = (own_none, own_done)
 

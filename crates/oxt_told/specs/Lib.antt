@@ -1,4 +1,6 @@
+pub mod Calls
 pub mod Classes
+pub mod Decorated
 pub mod Extensions
 pub mod Groups
 pub mod Modules
@@ -7,5 +9,7 @@ pub mod Source
 pub mod Strict
 pub mod Symbols
 pub mod Syntax
+pub mod Tags
 pub mod Taken
+pub mod Uses
 pub mod Whole

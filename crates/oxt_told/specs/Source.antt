@@ -4,7 +4,7 @@ use Rattle.std.specs.Prelude.{ℕ, ◌==◌, List, [], ◌∷◌, ◌++◌, Bool
 use Rattle.indexmap.specs.IndexMap.{insert_entry}
 use Rattle.oxt_facts.specs.Told.{Tellings, Value, block, member, bare, inlined, gone, constant, following, written}
 use Rattle.oxt_modules.specs.Names.{declared_symbol}
-use Rattle.oxt_options.specs.Facts.{Facts, constant_at, is_in}
+use Rattle.oxt_options.specs.Facts.{Facts, alias_at, constant_at, is_in}
 use Rattle.oxt_options.specs.declared.rewrite.RewriteExtensionsMode.{RewriteExtensionsMode}
 use Rattle.oxt_scoping.specs.Entries.{SymbolData}
 use Rattle.oxt_scoping.specs.Scoped.{Scoped, live_at}
@@ -22,6 +22,7 @@ use Rattle.oxt_told.specs.Namespaces.{seat_told, seat_inside}
 use Rattle.oxt_told.specs.Symbols.{first_node, named_symbol}
 use Rattle.oxt_told.specs.declared.seat.Seat.{Seat}
 use Rattle.oxt_told.specs.Syntax.{is_pure, is_text_form}
+use Rattle.oxt_told.specs.Uses.{legacy_told}
 use Rattle.oxt_told.specs.declared.told.Source.{Source}
 use Rattle.oxt_tree.specs.Doc.{Doc, nil, flag, number, text, list, node, Docs, no_docs, doc}
 use Rattle.oxt_told.specs.declared.members.EnumAround.{EnumAround}
@@ -118,13 +119,14 @@ members_bares s a (doc d ds) = member_bares s a d ++ members_bares s a ds
 -- ---- blocks
 
 -- what the plan says of nodes by their numbers: which specifiers are kept, which blocks are first, which are dropped, which
--- expressions are inlined, and which are names that nothing writes to
+-- expressions are inlined, which are names that nothing writes to, and which are read as the alias of a class
 pub record Asked : Type 0 where
   pub kept : ℕ → Bool
   pub first : ℕ → Bool
   pub dropped : ℕ → Bool
   pub inlined : ℕ → Option Constant
   pub never : ℕ → Bool
+  pub alias : ℕ → Option ℕ
 
 -- what a plan that knows that says
 abbrev pub asked_of : Facts → Asked
@@ -135,6 +137,7 @@ asked_of p =
       dropped = is_in p.dropped;
       inlined = constant_at p.inlined;
       never = is_in p.never_written;
+      alias = alias_at p.aliases;
     }
 
 -- what is chosen for the whole source: how extensions are rewritten, and the rules by which fields are lowered
@@ -144,7 +147,7 @@ pub record Chosen : Type 0 where
 
 -- what the options choose for a source of whose nodes that is asked
 abbrev pub chosen_of : TransformData → Asked → Chosen
-chosen_of o p = record { mode = o.typescript.rewrite_import_extensions; rules = rules_of o p.never p.inlined }
+chosen_of o p = record { mode = o.typescript.rewrite_import_extensions; rules = rules_of o p.never p.inlined p.alias }
 
 -- the same as the program has it
 abbrev pub chosen_in : Source → Chosen
@@ -192,14 +195,18 @@ unkept_told ks i = if ks i then [] else (i, gone) ∷ []
 
 -- a node that stands there: an expression that is inlined, a block of an enum, an `import =`, one that has a module's
 -- specifier, a class, or what namespaces become
-abbrev pub own_told : Scoped → Asked → Chosen → Seat → Kind → ℕ → Docs → Tellings
-own_told s p c q k i ds =
+abbrev pub kind_told : Scoped → Asked → Chosen → Seat → Kind → ℕ → Docs → Doc → Tellings
+kind_told s p c q k i ds d =
     if may_be_inlined k then inlined_told i (p.inlined i)
     else if same_kind k kind.TSEnumDeclaration then enum_told s p k i ds
     else if same_kind k kind.TSImportEqualsDeclaration then unkept_told p.kept i
     else if has_source k then extension_told c.mode (named (codes "source") k ds)
-    else if is_class k then class_told s c.rules k ds
+    else if is_class k then class_told s c.rules i d
     else seat_told s p.first q k i ds
+
+-- the same, and what decorators make of it
+abbrev pub own_told : Scoped → Asked → Chosen → Seat → Kind → ℕ → Docs → Doc → Tellings
+own_told s p c q k i ds d = kind_told s p c q k i ds d ++ legacy_told s c.rules k i d
 
 -- all these in a document that stands there
 abbrev mutual
@@ -209,7 +216,7 @@ abbrev mutual
   told_in s p c q (number n) = []
   told_in s p c q (text t) = []
   told_in s p c q (list ds) = told_in_each s p c q ds
-  told_in s p c q (node k i b e ds) = own_told s p c q k i ds ++ told_in_each s p c (seat_inside q k i) ds
+  told_in s p c q (node k i b e ds) = own_told s p c q k i ds (node k i b e ds) ++ told_in_each s p c (seat_inside q k i) ds
 
   pub told_in_each : Scoped → Asked → Chosen → Seat → Docs → Tellings
   told_in_each s p c q no_docs = []

@@ -1,31 +1,35 @@
-//! What is told of classes: of their bodies what constructors put on objects, and of each field what becomes of it.
-ghost use Rattle.std.specs.Prelude.{◌≡◌, IfOk, OnOk, codes, option_map};
+//! What is told of classes: of themselves, of their bodies what constructors put on objects, and of their elements.
+ghost use Rattle.std.specs.Prelude.{◌≡◌, IfOk, OnOk, codes, false, option_map};
 ghost use Rattle.std.specs.List.{list_any};
-ghost use Rattle.oxt_facts.specs.Told.{gaining_view, moving_view};
+ghost use Rattle.oxt_facts.specs.Told.{gaining_view};
+ghost use Rattle.oxt_fields.specs.Classes.{elements_of, is_derived};
 ghost use Rattle.oxt_fields.specs.Fates.{moves_to_constructor};
 ghost use Rattle.oxt_fields.specs.Rules.{rules_view};
-ghost use Rattle.oxt_told.specs.Classes.{body_told, class_told, elements_in, fate_told, field_told, fields_told, gaining_of, gains_told, has_moving, is_class, is_derived, is_gaining, key_tag, moving_of, place_in, tag_of_key};
+ghost use Rattle.oxt_told.specs.Calls.{common_of, elements_told};
+ghost use Rattle.oxt_told.specs.Classes.{body_told, class_told, gaining_of, gains_told, has_more, has_moving, is_class, is_gaining, parts_told, place_in};
 ghost use Rattle.oxt_told.specs.Source.{all_told};
 ghost use Rattle.oxt_told.specs.Symbols.{number_in};
-ghost use Rattle.oxt_tree.specs.Fields.{named};
-ghost use Rattle.oxt_tree.specs.Names.{name_bytes};
-ghost use Rattle.oxt_tree.specs.View.{docs_in, doc_or_nil, node_doc, part_doc};
+ghost use Rattle.oxt_tree.specs.Fields.{field_of};
+ghost use Rattle.oxt_tree.specs.View.{docs_in, node_doc, part_doc};
 
+use crate::calls::{shared_of, tell_elements};
+use crate::decorated::{lowering_of, tell_itself};
+use crate::lowering::Lowering;
 use crate::namespaces::with_groups;
 use crate::properties::{empty_fields, has_properties, parameters_in, property_names};
+use crate::tags::tag_if;
 use crate::told::Source;
-use oxt_facts::told::{Told, ToldClass, ToldField, ToldNodes};
+use crate::uses::tell_inner;
+use oxt_facts::told::{Told, ToldClass, ToldNodes};
 use oxt_fields::class::{
     constructor_of, elements_of, get_super_call_position, is_derived, statements_of,
 };
-use oxt_fields::fate::{Fate, fate_of, hoists_private, is_static, moves_to_constructor};
+use oxt_fields::fate::{hoists_private, moves_to_constructor};
 use oxt_fields::rules::FieldRules;
 use oxt_grammar::field::Field;
 use oxt_grammar::kind::Kind;
 use oxt_tree::ids::OutOfMemory;
-use oxt_tree::name::Name;
 use oxt_tree::tree::{Node, Part};
-use std::alloc::Global;
 
 /// Whether nodes of the kind are classes.
 pub fn is_class(kind: Kind) -> bool
@@ -34,46 +38,113 @@ pub fn is_class(kind: Kind) -> bool
     kind.is(Kind::ClassDeclaration) || kind.is(Kind::ClassExpression)
 }
 
-/// Tells of the class: of its body, and of its fields.
-#[tactic(auto, using(crate::proofs::Loops::told_both))]
+/// Tells of the class: of itself, of its body, of its elements, and of the uses of its inner name.
 pub fn tell_class(source: &Source, class: &Node, told: &mut ToldNodes) -> Result<(), OutOfMemory>
     ensures { OnOk result (told.new ≡ all_told told.old
-        (class_told source.now.scoping.now (rules_view source.now.rules) class.now.kind
-        (docs_in class.now.parts.items))) }
+        (class_told source.now.scoping.now (rules_view source.now.rules) class.now.id.0 (node_doc class.now))) }
 {
-    let elements = elements_of(class);
-    tell_gains(source, class, told)?;
-    tell_fields(source, hoists_private(elements), elements, told)
+    tell_parts(source, lowering_of(source.rules, class), class, told)
 }
 
-/// Tells of the class's body, if its constructor puts something on objects.
-fn tell_gains(source: &Source, class: &Node, told: &mut ToldNodes) -> Result<(), OutOfMemory>
+/// The same, where decorators make that of it.
+#[tactic(auto, using(crate::proofs::Loops::told_four))]
+fn tell_parts(
+    source: &Source,
+    lowering: Lowering,
+    class: &Node,
+    told: &mut ToldNodes,
+) -> Result<(), OutOfMemory>
     ensures { OnOk result (told.new ≡ all_told told.old
-        (gains_told source.now.scoping.now (rules_view source.now.rules) class.now.kind
-        (docs_in class.now.parts.items))) }
+        (parts_told source.now.scoping.now (rules_view source.now.rules) lowering class.now.id.0 (node_doc class.now))) }
 {
-    if is_gaining(source.rules, elements_of(class)) {
-        tell_body(source, class, told)
+    tell_itself(source, lowering, class, told)?;
+    tell_gains(source, lowering, class, told)?;
+    tell_all_elements(source, lowering, class, told)?;
+    tell_inner(source, lowering, class, told)
+}
+
+/// Tells of the elements of the class.
+#[tactic(auto, using(crate::proofs::Callers::elements_by))]
+fn tell_all_elements(
+    source: &Source,
+    lowering: Lowering,
+    class: &Node,
+    told: &mut ToldNodes,
+) -> Result<(), OutOfMemory>
+    ensures { OnOk result (told.new ≡ all_told told.old
+        (elements_told (rules_view source.now.rules)
+        (common_of source.now.scoping.now lowering class.now.id.0 (node_doc class.now)) false
+        (elements_of (node_doc class.now)))) }
+{
+    let shared = shared_of(source, lowering, class)?;
+    tell_elements(source, &shared, elements_of(class), told)
+}
+
+/// Tells of the class's body, if it has more in it than is written there.
+fn tell_gains(
+    source: &Source,
+    lowering: Lowering,
+    class: &Node,
+    told: &mut ToldNodes,
+) -> Result<(), OutOfMemory>
+    ensures { OnOk result (told.new ≡ all_told told.old
+        (gains_told source.now.scoping.now (rules_view source.now.rules) lowering class.now.id.0 (node_doc class.now))) }
+{
+    if has_more(source.rules, lowering, class) {
+        tell_body(source, lowering, class, told)
     } else {
         Ok(())
     }
 }
 
+/// Whether the body of the class has more in it than is written there.
+fn has_more(rules: FieldRules, lowering: Lowering, class: &Node) -> bool
+    ensures { result ≡ has_more (rules_view rules.entry) lowering (elements_of (node_doc class.now)) }
+{
+    lowering.has_front || (lowering.is_inside || gains(rules, class))
+}
+
+/// Whether the class has parameter properties, or a field that moves into the constructor.
+fn gains(rules: FieldRules, class: &Node) -> bool
+    ensures { result ≡ is_gaining (rules_view rules.entry) (elements_of (node_doc class.now)) }
+{
+    is_gaining(rules, elements_of(class))
+}
+
 /// Tells of the class's body.
-fn tell_body(source: &Source, class: &Node, told: &mut ToldNodes) -> Result<(), OutOfMemory>
+fn tell_body(
+    source: &Source,
+    lowering: Lowering,
+    class: &Node,
+    told: &mut ToldNodes,
+) -> Result<(), OutOfMemory>
     ensures { OnOk result (told.new ≡ all_told told.old
-        (body_told (number_in (named (codes "body") class.now.kind (docs_in class.now.parts.items)))
-        (gaining_of source.now.scoping.now (rules_view source.now.rules)
-        (is_derived class.now.kind (docs_in class.now.parts.items))
-        (elements_in class.now.kind (docs_in class.now.parts.items))))) }
+        (body_told (number_in (field_of (codes "body") (node_doc class.now)))
+        (gaining_of source.now.scoping.now (rules_view source.now.rules) lowering class.now.id.0
+        (is_derived (node_doc class.now)) (elements_of (node_doc class.now))))) }
 {
     match class.field(Field::Body) {
         Some(Part::Node(body)) => {
-            let gains = gaining_of(source, is_derived(class), elements_of(class))?;
+            let gains = class_gains(source, lowering, class)?;
             told.tell(body.id, Told::Gains(gains))
         }
         _ => Ok(()),
     }
+}
+
+/// What the body of the class has more than is written there.
+fn class_gains(source: &Source, lowering: Lowering, class: &Node) -> Result<ToldClass, OutOfMemory>
+    ensures { IfOk result (λ gains. gaining_view gains ≡ gaining_of source.now.scoping.now
+        (rules_view source.now.rules) lowering class.now.id.0 (is_derived (node_doc class.now))
+        (elements_of (node_doc class.now))) }
+{
+    gaining_of(
+        source,
+        lowering,
+        class.id.0,
+        is_derived(class),
+        elements_of(class),
+    )
 }
 
 /// Whether a class with these elements has parameter properties, or a field that moves into the constructor.
@@ -110,19 +181,28 @@ fn is_moving(rules: FieldRules, hoists: bool, element: &Part) -> bool
     }
 }
 
-/// What the constructor of a class with these elements, which extends another or not, puts on objects.
-fn gaining_of(source: &Source, derives: bool, elements: &[Part]) -> Result<ToldClass, OutOfMemory>
+/// What the body of the class of that number with these elements, which extends another or not, has more than is written there.
+fn gaining_of(
+    source: &Source,
+    lowering: Lowering,
+    number: u64,
+    derives: bool,
+    elements: &[Part],
+) -> Result<ToldClass, OutOfMemory>
     ensures { IfOk result (λ gains. gaining_view gains ≡ gaining_of source.now.scoping.now
-        (rules_view source.now.rules) derives (docs_in elements.now)) }
+        (rules_view source.now.rules) lowering number derives (docs_in elements.now)) }
 {
     let constructor = constructor_of(elements);
     let properties = property_names(source.alloc, parameters_in(constructor))?;
     Ok(ToldClass {
+        gains: is_gaining(source.rules, elements),
         fields: empty_fields(source.alloc, source.rules, elements, properties.as_slice())?,
         properties: with_groups(source.alloc, source.scoping, properties.as_slice())?,
         place: place_in(constructor),
         has_constructor: constructor.is_some(),
         is_derived: derives,
+        alias: tag_if(source.alloc, "a", lowering.has_front, number)?,
+        has_calls: lowering.is_inside,
     })
 }
 
@@ -134,102 +214,4 @@ fn place_in(constructor: Option<&Node>) -> usize
         Some(method) => get_super_call_position(statements_of(method)),
         None => 0,
     }
-}
-
-/// Tells of the fields among the elements.
-#[tactic(auto, using(crate::proofs::Elements::field_steps))]
-fn tell_fields(
-    source: &Source,
-    hoists: bool,
-    elements: &[Part],
-    told: &mut ToldNodes,
-) -> Result<(), OutOfMemory>
-    ensures { OnOk result (told.new ≡ all_told told.old
-        (fields_told (rules_view source.now.rules) hoists (docs_in elements.now))) }
-{
-    for element in elements {
-        tell_element(source, hoists, element, told)?;
-    }
-    Ok(())
-}
-
-/// Tells of the element, if it is a field that does not stay as it is.
-fn tell_element(
-    source: &Source,
-    hoists: bool,
-    element: &Part,
-    told: &mut ToldNodes,
-) -> Result<(), OutOfMemory>
-    ensures { OnOk result (told.new ≡ all_told told.old
-        (field_told (rules_view source.now.rules) hoists (part_doc element.now))) }
-{
-    match element {
-        Part::Node(node) => tell_fate(
-            source.alloc,
-            fate_of(source.rules, hoists, node),
-            node,
-            told,
-        ),
-        _ => Ok(()),
-    }
-}
-
-/// Tells of the field, which has that fate.
-fn tell_fate(
-    alloc: Global,
-    fate: Fate,
-    node: &Node,
-    told: &mut ToldNodes,
-) -> Result<(), OutOfMemory>
-    ensures { OnOk result (told.new ≡ all_told told.old
-        (fate_told fate node.now.id.0 node.now.kind (docs_in node.now.parts.items))) }
-{
-    match fate {
-        Fate::Stays => Ok(()),
-        Fate::Goes => told.tell(node.id, Told::Gone),
-        Fate::LeavesKey => told.tell(node.id, Told::LeavesKey),
-        Fate::Moves {
-            stays,
-            has_temporary,
-        } => {
-            let field = moving_of(alloc, stays, has_temporary, node)?;
-            told.tell(node.id, Told::Moves(field))
-        }
-    }
-}
-
-/// What is told of the field, which moves.
-fn moving_of(
-    alloc: Global,
-    stays: bool,
-    has_temporary: bool,
-    node: &Node,
-) -> Result<ToldField, OutOfMemory>
-    ensures { IfOk result (λ field. moving_view field
-        ≡ moving_of stays has_temporary node.now.kind (docs_in node.now.parts.items)) }
-{
-    Ok(ToldField {
-        is_static: is_static(node),
-        stays,
-        tag: key_tag(alloc, has_temporary, node.field(Field::Key))?,
-    })
-}
-
-/// The tag by which the value of the key is kept, if it is.
-fn key_tag(alloc: Global, is_kept: bool, key: Option<&Part>) -> Result<Option<Name>, OutOfMemory>
-    ensures { IfOk result (λ tag. option_map name_bytes tag ≡ key_tag is_kept (number_in (doc_or_nil key.entry))) }
-{
-    match key {
-        Some(Part::Node(key)) if is_kept => Ok(Some(tag_of_key(alloc, key.id.0)?)),
-        _ => Ok(None),
-    }
-}
-
-/// The tag by which the value of the key of that number is kept.
-fn tag_of_key(alloc: Global, key: u64) -> Result<Name, OutOfMemory>
-    ensures { IfOk result (λ tag. name_bytes tag ≡ tag_of_key key) }
-{
-    let mut text = key.to_string(alloc)?;
-    text.push_str("k")?;
-    Name::from_string(text)
 }

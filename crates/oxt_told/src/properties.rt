@@ -111,20 +111,21 @@ pub fn empty_fields(
     if rules.moves || rules.drops_empty {
         return Ok(Vec::new(alloc));
     }
-    free_names(alloc, elements, properties)
+    free_names(alloc, rules, elements, properties)
 }
 
 /// The names of the properties that are not keys of these elements, each once.
 #[tactic(auto, using(crate::proofs::Taking::free_steps))]
 fn free_names<'a>(
     alloc: Global,
+    rules: FieldRules,
     elements: &'a [Part],
     properties: &'a [BoundName],
 ) -> Result<Vec<Name>, OutOfMemory>
     ensures { IfOk result (λ fields. map name_bytes fields.items
-        ≡ free_names (is_own_name (docs_in elements.now)) (map (λ p. p.name) (bound_views properties.now))) }
+        ≡ free_names (is_own_name (rules_view rules.entry) (docs_in elements.now)) (map (λ p. p.name) (bound_views properties.now))) }
 {
-    let mut taken = own_names(alloc, elements)?;
+    let mut taken = own_names(alloc, rules, elements)?;
     let mut fields = Vec::new(alloc);
     for property in properties {
         push_free(&property.name, &mut taken, &mut fields)?;
@@ -162,12 +163,17 @@ fn take<'a>(name: &'a Name, taken: &mut IndexSet<&'a str>) -> Result<bool, OutOf
 
 /// The identifiers that are keys of what objects get as their own from these elements.
 #[tactic(auto, using(crate::proofs::Taking::own_steps))]
-fn own_names<'a>(alloc: Global, elements: &'a [Part]) -> Result<IndexSet<&'a str>, OutOfMemory>
-    ensures { IfOk result (λ names. (t : List ℕ) → is_among t (texts_in names.keys) ≡ is_own_name (docs_in elements.now) t) }
+fn own_names<'a>(
+    alloc: Global,
+    rules: FieldRules,
+    elements: &'a [Part],
+) -> Result<IndexSet<&'a str>, OutOfMemory>
+    ensures { IfOk result (λ names. (t : List ℕ) → is_among t (texts_in names.keys)
+        ≡ is_own_name (rules_view rules.entry) (docs_in elements.now) t) }
 {
     let mut names = IndexSet::new(alloc);
     for element in elements {
-        note(own_name(element), &mut names)?;
+        note(own_name(rules, element), &mut names)?;
     }
     Ok(names)
 }
@@ -188,20 +194,20 @@ fn note<'a>(name: Option<&'a str>, names: &mut IndexSet<&'a str>) -> Result<(), 
 }
 
 /// The identifier that is the key of the element, if objects get that as their own.
-fn own_name(element: &Part) -> Option<&str>
-    ensures { option_map (λ name. name.now) result ≡ own_name (part_doc element.now) }
+fn own_name<'a>(rules: FieldRules, element: &'a Part) -> Option<&'a str>
+    ensures { option_map (λ name. name.now) result ≡ own_name (rules_view rules.entry) (part_doc element.now) }
 {
     match element {
-        Part::Node(node) if is_own(node) => identifier_in(node.field(Field::Key)),
+        Part::Node(node) if is_own(rules, node) => identifier_in(node.field(Field::Key)),
         _ => None,
     }
 }
 
-/// Whether objects get the element as their own: an instance field without `declare`, or an instance accessor.
-fn is_own(node: &Node) -> bool
-    ensures { result ≡ is_own node.now.kind (docs_in node.now.parts.items) }
+/// Whether objects get the element as their own: an instance field without `declare`, or an instance accessor that stays one.
+fn is_own(rules: FieldRules, node: &Node) -> bool
+    ensures { result ≡ is_own (rules_view rules.entry) node.now.kind (docs_in node.now.parts.items) }
 {
-    !is_static(node) && (node.kind.is(Kind::AccessorProperty) || is_field(node))
+    !is_static(node) && ((!rules.legacy && node.kind.is(Kind::AccessorProperty)) || is_field(node))
 }
 
 /// The text of the key, if it is an identifier.

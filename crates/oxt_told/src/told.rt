@@ -5,7 +5,7 @@ ghost use Rattle.oxt_facts.specs.Told.{block};
 ghost use Rattle.oxt_options.specs.Facts.{constant_at, is_in};
 ghost use Rattle.oxt_options.specs.Options.{transform_view};
 ghost use Rattle.oxt_told.specs.Modules.{modules_told};
-ghost use Rattle.oxt_told.specs.Source.{all_told, ambient_told, asked_of, block_told, chosen_in, enum_told, inlined_told, may_be_inlined, members_in, own_told, told_in, told_in_each};
+ghost use Rattle.oxt_told.specs.Source.{all_told, ambient_told, asked_of, block_told, chosen_in, enum_told, inlined_told, kind_told, may_be_inlined, members_in, own_told, told_in, told_in_each};
 ghost use Rattle.oxt_told.specs.Strict.{strict_told};
 ghost use Rattle.oxt_told.specs.Symbols.{named_symbol};
 ghost use Rattle.oxt_told.specs.Whole.{told_of_source};
@@ -21,6 +21,7 @@ use crate::seat::Seat;
 use crate::strict::tell_strict;
 use crate::symbols::{around, named_symbol};
 use crate::syntax::is_pure;
+use crate::uses::tell_legacy;
 use oxt_facts::told::{Told, ToldBlock, ToldNodes};
 use oxt_fields::rules::FieldRules;
 use oxt_grammar::field::Field;
@@ -36,9 +37,8 @@ use std::alloc::Global;
 
 /// What is told under the options of the program, whose table of scopes and symbols is `scoping`: of its imports and exports,
 /// of the blocks of its enums, of their members and the bare names that mean these, of the expressions that are inlined, of
-/// its `import =`, as the plan says; of the specifiers of its modules, of its classes and their fields, and of the program
-/// itself. With
-/// `only_remove_type_imports` an import stays that loses its whole list.
+/// its `import =`, as the plan says; of the specifiers of its modules, of its classes and their elements, of its decorators, and
+/// of the program itself. With `only_remove_type_imports` an import stays that loses its whole list.
 ///
 /// # Errors
 ///
@@ -153,8 +153,8 @@ fn tell_in_each(
     Ok(())
 }
 
-/// Tells of the node, which stands there, if it is an expression that is inlined, a block of an enum, an `import =`, a class, or
-/// has the specifier of a module, and of what namespaces become.
+/// Tells of the node, which stands there, and of what decorators make of it.
+#[tactic(auto, using(crate::proofs::Loops::told_both))]
 fn tell_own(
     source: &Source,
     seat: Seat,
@@ -163,7 +163,23 @@ fn tell_own(
 ) -> Result<(), OutOfMemory>
     ensures { OnOk result (told.new ≡ all_told told.old
         (own_told source.now.scoping.now (asked_of source.now.plan.now) (chosen_in source.now) seat node.now.kind node.now.id.0
-        (docs_in node.now.parts.items))) }
+        (docs_in node.now.parts.items) (node_doc node.now))) }
+{
+    tell_kind(source, seat, node, told)?;
+    tell_legacy(source, node, told)
+}
+
+/// Tells of the node, which stands there, if it is an expression that is inlined, a block of an enum, an `import =`, a class, or
+/// has the specifier of a module, and of what namespaces become.
+fn tell_kind(
+    source: &Source,
+    seat: Seat,
+    node: &Node,
+    told: &mut ToldNodes,
+) -> Result<(), OutOfMemory>
+    ensures { OnOk result (told.new ≡ all_told told.old
+        (kind_told source.now.scoping.now (asked_of source.now.plan.now) (chosen_in source.now) seat node.now.kind node.now.id.0
+        (docs_in node.now.parts.items) (node_doc node.now))) }
 {
     if may_be_inlined(node.kind) {
         tell_inlined(source.plan, node.id, told)

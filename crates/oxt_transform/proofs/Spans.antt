@@ -104,9 +104,9 @@ implied true b h e = h
 implied false b h e = cc
 
 -- What the test of the settings says of these statements.
-pub exports_stand : (is_due : Bool) (source output : Doc) → has_exports (settings_by is_due source) (body output) ≡ true → HasExports is_due source output
-exports_stand is_due source output h =
-    let x : SettingsData = settings_by is_due source in
+pub exports_stand : (is_due undecorated : Bool) (source output : Doc) → has_exports (settings_by is_due undecorated source) (body output) ≡ true → HasExports is_due source output
+exports_stand is_due undecorated source output h =
+    let x : SettingsData = settings_by is_due undecorated source in
     let parts = both (same_spans (empty_exports (body output)) x.exports) (not x.export_due || ends_in_export (body output)) h in
     record {
       same = spans_same (empty_exports (body output)) x.exports parts.0;

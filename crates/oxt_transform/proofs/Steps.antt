@@ -38,7 +38,8 @@ use Rattle.oxt_transform.specs.Lowering.{IsTextOfOne, Lowers, Passes, ReturnsPla
 use Rattle.oxt_transform.specs.Outcomes.{AnswerCut, CutOff, IfRefused, IsAnswerUncertifiedOrMemory, IsRefusedMemoryOrWriteFault, LowersToLines, NothingStands, OnWriteFault, Reported, is_uncertified, limit, options_in}
 use Rattle.oxt_transform.specs.Plain.{ComesBack, as_javascript, is_left_alone, is_plain_source}
 use Rattle.oxt_transform.specs.Refusals.{Accepts, Difference, Hinders, IsHindrance, IsFailure, Judges, Refusal, Refuses, captured_name, is_plain_output, json, misplaced_node, shape, uncertified, wide_member}
-use Rattle.oxt_transform.specs.Settings.{SettingsData, differs, has_exports, has_language, is_script, wrong_setting}
+use Rattle.oxt_transform.specs.Settings.{SettingsData, differs, has_exports, has_language, is_decorated, is_script, wrong_setting}
+use Rattle.oxt_transform.specs.Decorators.{has_decorator}
 use Rattle.oxt_transform.specs.declared.program.Outcome.{Outcome}
 use Rattle.oxt_transform.specs.declared.program.Outcome.TheVariants.{Done, Diagnosed, Refused, Usage, ReadFault, WriteFault, Memory, TooLong}
 use Rattle.oxt_tree.specs.Doc.{Doc}
@@ -144,6 +145,7 @@ asked_same known listed a =
     let dropped = fun_ext a.dropped in
     let inlined = fun_ext a.inlined in
     let never = fun_ext a.never_written in
+    let alias = fun_ext a.aliases in
     cc
 
 module _ (o : TransformData) (source : Doc) (known : Facts) (s : Scoped) (table : s ≡ resolved source) (a : Answers known (facts_of s source o)) where
@@ -210,7 +212,7 @@ abbrev rules_in : TransformData → Doc → Rules
 rules_in o source = rules_by (facts_of (resolved source) source o) o
 
 source_fits : (o : TransformData) (source : Doc) (r : Refusal) → fault_of o source ≡ Some r → is_of_source r ≡ true
-source_fits o source r h = sym (ap fits_source h) ∙ fits (is_definition_file source) (first_misplacement (resolved source) (rules_in o source) source) (wide (resolved source) source) (first_capture (resolved source) (rules_in o source) (is_in (kept (resolved source) source o.typescript)) source) source
+source_fits o source r h = sym (ap fits_source h) ∙ fits (is_definition_file source) (first_misplacement (resolved source) (rules_in o source) source) (wide (rules_in o source).legacy (resolved source) source) (first_capture (resolved source) (rules_in o source) (is_in (kept (resolved source) source o.typescript o.decorator.legacy)) source) source
 
 -- a fault of the source
 pub fault_hinders : (came : Option Refusal) (o : TransformData) (source : Doc) → IsFaultOf came (resolved source) source o → IsHindrance came o source
@@ -243,8 +245,24 @@ last_setting false true true x y z h = refl
 last_setting false true false x y z h = cc
 last_setting false false c x y z h = cc
 
+both_last : (s : SettingsData) (output : Doc) → wrong_setting s output ≡ None → (has_exports s (body output) && not (is_decorated s output)) ≡ true
+both_last s output h = last_setting (differs s.script (is_script output)) (has_language s.definitions output) (has_exports s (body output) && not (is_decorated s output)) _ _ _ h
+
+first_of_both : (a b : Bool) → (a && b) ≡ true → a ≡ true
+first_of_both true b h = refl
+first_of_both false b h = cc
+
+second_of_both : (a b c : Bool) → (a && not (b && c)) ≡ true → b ≡ true → c ≡ false
+second_of_both true true false h e = refl
+second_of_both true true true h e = cc
+second_of_both true false c h e = cc
+second_of_both false b c h e = cc
+
 right_exports : (s : SettingsData) (output : Doc) → wrong_setting s output ≡ None → has_exports s (body output) ≡ true
-right_exports s output h = last_setting (differs s.script (is_script output)) (has_language s.definitions output) (has_exports s (body output)) _ _ _ h
+right_exports s output h = first_of_both _ _ (both_last s output h)
+
+undecorated_where : (s : SettingsData) (output : Doc) → wrong_setting s output ≡ None → s.undecorated ≡ true → has_decorator output ≡ false
+undecorated_where s output h = second_of_both (has_exports s (body output)) s.undecorated (has_decorator output) (both_last s output h)
 
 -- ---- the text
 
@@ -267,7 +285,8 @@ module _ (options : TransformData) (bytes : List ℕ) (source : Doc) (next : ℕ
         plain_beside = p.judged.0.1;
         plain = λ none. plain_then (keeps options source) options source output p.judged.0.1 (sym (ap tells_of_wrapper all_told) ∙ none);
         settings = p.judged.0.2;
-        exports = exports_stand (is_due options source) source output (right_exports (expected_of options source).settings output p.judged.0.2);
+        undecorated = undecorated_where (expected_of options source).settings output p.judged.0.2;
+        exports = exports_stand (is_due options source) options.decorator.legacy source output (right_exports (expected_of options source).settings output p.judged.0.2);
         bound_once = p.judged.1.0;
         same_word = sym p.judged.1.1;
         written = written;

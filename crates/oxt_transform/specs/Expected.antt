@@ -8,7 +8,7 @@ use Rattle.oxt_told.specs.Groups.{groups_of}
 use Rattle.oxt_told.specs.Source.{Asked}
 use Rattle.oxt_told.specs.Whole.{told_of_source}
 use Rattle.oxt_options.specs.Options.{TransformData}
-use Rattle.oxt_options.specs.Facts.{Facts, is_in, last_constant}
+use Rattle.oxt_options.specs.Facts.{Facts, is_in, last_alias, last_constant}
 use Rattle.oxt_resolve.specs.Resolved.{resolved}
 use Rattle.oxt_scoping.specs.Scoped.{Scoped}
 use Rattle.oxt_check.specs.Targets.{targets}
@@ -37,6 +37,7 @@ listed_in l =
       dropped = is_in l.dropped;
       inlined = last_constant l.inlined;
       never = is_in l.never_written;
+      alias = last_alias l.aliases;
     }
 
 -- what is asked of the nodes of a source, of which that is the table of scopes and symbols, under the options
@@ -98,7 +99,7 @@ expected_by s p o source =
     record {
       word = source_word_by s p o source;
       names = names_of source;
-      settings = settings_by (due_by p o source) source;
+      settings = settings_by (due_by p o source) o.decorator.legacy source;
       staying = targets source;
     }
 

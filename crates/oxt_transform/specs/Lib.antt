@@ -1,5 +1,6 @@
 pub mod Bound
 pub mod BoundViews
+pub mod Decorators
 pub mod Expected
 pub mod Exports
 pub mod Faults

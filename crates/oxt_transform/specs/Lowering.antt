@@ -16,6 +16,7 @@ use Rattle.oxt_check.specs.Targets.{is_listed, targets}
 use Rattle.oxt_tree.specs.Doc.{Doc}
 use Rattle.oxt_transform.specs.Bound.{misbound}
 use Rattle.oxt_transform.specs.Expected.{expected_of, fault_of, is_due, keeps, known_of_output, names_of, output_word, source_word}
+use Rattle.oxt_transform.specs.Decorators.{has_decorator}
 use Rattle.oxt_transform.specs.Exports.{HasExports}
 use Rattle.oxt_transform.specs.Plain.{as_javascript, is_plain_source, leaves_javascript}
 use Rattle.oxt_transform.specs.Refusals.{Judges}
@@ -42,7 +43,7 @@ tells_of_wrapper told = list_any (λ t. is_of_wrapper t.kind) told
 -- grammar with the source's settings, plain but for the wrappers around targets of which the diagnostics tell; where
 -- there are none, it is plain. Each of its made names is bound once, and each use of one means that binding. It has the
 -- effect word that the source has under the options, in which each name that is used or bound has the owner that it had,
--- and its `export {}` statements are the source's and the one that is due.
+-- and its `export {}` statements are the source's and the one that is due. Where decorators are lowered none is left.
 pub record Lowers (options : TransformData) (bytes : List ℕ) (told : List OxcDiagnostic) (text : List ℕ) : Type 0 where
   pub source : Doc
   pub next : ℕ
@@ -52,7 +53,8 @@ pub record Lowers (options : TransformData) (bytes : List ℕ) (told : List OxcD
   pub valid : is_tree output ≡ true
   pub plain_beside : is_plain_beside output (holds.Node category.Program) (is_listed (targets source)) ≡ true
   pub plain : tells_of_wrapper told ≡ false → is_plain output ≡ true
-  pub settings : wrong_setting (settings_by (is_due options source) source) output ≡ None
+  pub settings : wrong_setting (settings_by (is_due options source) options.decorator.legacy source) output ≡ None
+  pub undecorated : options.decorator.legacy ≡ true → has_decorator output ≡ false
   pub exports : HasExports (is_due options source) source output
   pub bound_once : misbound (known_of_output (names_of source) output) output ≡ None
   pub same_word : output_word (names_of source) output ≡ source_word options source

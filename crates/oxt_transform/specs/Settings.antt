@@ -1,6 +1,7 @@
 -- The settings of a program, which are no part of its word.
 use Rattle.std.specs.Prelude.{List, ℕ, Bool, true, false, not, ◌&&◌, ◌||◌, if◌then◌else◌, Option, None, Some, codes}
 use Rattle.oxt_tree.specs.Syntax.{is_definition_file}
+use Rattle.oxt_transform.specs.Decorators.{has_decorator}
 use Rattle.oxt_transform.specs.Exports.{body, empty_exports, ends_in_export, exports_left, same_spans}
 use Rattle.oxt_transform.specs.declared.settings.Settings.{Settings}
 use Rattle.oxt_tree.specs.Doc.{Doc, Docs}
@@ -20,24 +21,34 @@ differs true b = not b
 differs false b = b
 
 -- the settings that an output is to have: whether its source is a script, whether that is a file of definitions, where
--- the `export {}` statements of its body are to stand, and whether one is to be the last statement
+-- the `export {}` statements of its body are to stand, whether one is to be the last statement, and whether no decorator is
+-- to be left
 pub record SettingsData : Type 0 where
   pub script : Bool
   pub definitions : Bool
   pub exports : List Span
   pub export_due : Bool
+  pub undecorated : Bool
 
 abbrev pub settings_view : Settings → SettingsData
-settings_view s = record { script = s.script; definitions = s.definitions; exports = s.exports.items; export_due = s.export_due }
+settings_view s =
+    record {
+      script = s.script;
+      definitions = s.definitions;
+      exports = s.exports.items;
+      export_due = s.export_due;
+      undecorated = s.undecorated;
+    }
 
--- those of the output of a source, where an `export {}` is due in it or not
-abbrev pub settings_by : Bool → Doc → SettingsData
-settings_by is_due source =
+-- those of the output of a source, where an `export {}` is due in it or not, and where decorators are lowered or not
+abbrev pub settings_by : Bool → Bool → Doc → SettingsData
+settings_by is_due undecorated source =
     record {
       script = is_script source;
       definitions = is_definition_file source;
       exports = exports_left is_due source;
       export_due = is_due;
+      undecorated = undecorated;
     }
 
 -- a file of definitions where the source is one, and else JavaScript
@@ -48,11 +59,16 @@ has_language definitions output = if definitions then is_definition_file output 
 abbrev pub has_exports : SettingsData → Docs → Bool
 has_exports s ds = same_spans (empty_exports ds) s.exports && (not s.export_due || ends_in_export ds)
 
+-- a decorator is left, though none is to be
+abbrev pub is_decorated : SettingsData → Doc → Bool
+is_decorated s output = s.undecorated && has_decorator output
+
 -- The setting in which a lowered program is wrong: it is a script exactly where its source is one; a file of
--- definitions where its source is one, and else JavaScript; and its body has the `export {}` statements that are due.
+-- definitions where its source is one, and else JavaScript; and its body has the `export {}` statements that are due, and
+-- no decorator where these are lowered.
 abbrev pub wrong_setting : SettingsData → Doc → Option (List ℕ)
 wrong_setting s output =
     if differs s.script (is_script output) then Some (codes "/sourceType")
     else if not (has_language s.definitions output) then Some (codes "/lang")
-    else if has_exports s (body output) then None
+    else if has_exports s (body output) && not (is_decorated s output) then None
     else Some (codes "/body")

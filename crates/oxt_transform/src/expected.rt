@@ -52,7 +52,8 @@ impl Expected {
             ≡ expected_by scoping.now (asked_of plan.now) (transform_view options.now) (node_doc source.now)) }
     {
         let word = source_word(alloc, source, scoping, plan, options)?;
-        let settings = Settings::of(alloc, source, is_due(source, plan, options))?;
+        let due = is_due(source, plan, options);
+        let settings = Settings::of(alloc, source, due, options.decorator.legacy)?;
         let targets = WrappedTargets::of(alloc, source)?;
         let names = UidNames::of_tree(alloc, source)?;
         Ok(Expected {

@@ -3,6 +3,7 @@
 
 mod bound;
 pub mod certificate;
+mod decorators;
 pub mod expected;
 mod exports;
 pub mod fault;

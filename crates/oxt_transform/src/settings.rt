@@ -1,10 +1,11 @@
 //! The settings of a program, which are no part of its effect word.
 ghost use Rattle.std.specs.Prelude.{◌≡◌, IfOk, option_map};
 ghost use Rattle.oxt_transform.specs.Exports.{exports_left};
-ghost use Rattle.oxt_transform.specs.Settings.{differs, has_exports, has_language, is_javascript, is_script, settings_by, settings_view, wrong_setting};
+ghost use Rattle.oxt_transform.specs.Settings.{differs, has_exports, has_language, is_decorated, is_javascript, is_script, settings_by, settings_view, wrong_setting};
 ghost use Rattle.oxt_tree.specs.Names.{name_bytes};
 ghost use Rattle.oxt_tree.specs.View.{docs_in, node_doc};
 
+use crate::decorators::has_decorator;
 use crate::exports::{empty_exports, ends_in_export, same_spans};
 use oxt_grammar::field::Field;
 use oxt_tree::ids::{OutOfMemory, Span};
@@ -23,17 +24,25 @@ pub struct Settings {
     pub exports: Vec<Span>,
     /// One of them is to be its last statement.
     pub export_due: bool,
+    /// No decorator is to be left.
+    pub undecorated: bool,
 }
 
 impl Settings {
-    /// Those of the output of that source, where an `export {}` is due in it or not.
+    /// Those of the output of that source, where an `export {}` is due in it or not, and where decorators are lowered
+    /// or not.
     ///
     /// # Errors
     ///
     /// `OutOfMemory` for want of memory alone.
-    pub fn of(alloc: Global, source: &Node, export_due: bool) -> Result<Settings, OutOfMemory>
-        ensures { IfOk result
-            (λ settings. settings_view settings ≡ settings_by export_due (node_doc source.now)) }
+    pub fn of(
+        alloc: Global,
+        source: &Node,
+        export_due: bool,
+        undecorated: bool,
+    ) -> Result<Settings, OutOfMemory>
+        ensures { IfOk result (λ settings. settings_view settings
+            ≡ settings_by export_due undecorated (node_doc source.now)) }
     {
         let exports = exports_left(alloc, source, export_due)?;
         Ok(Settings {
@@ -41,6 +50,7 @@ impl Settings {
             definitions: source.is_definition_file(),
             exports,
             export_due,
+            undecorated,
         })
     }
 }
@@ -72,7 +82,9 @@ pub(crate) fn wrong_setting(
         Ok(Some(Name::new(alloc, "/sourceType")?))
     } else if !has_language(settings.definitions, output) {
         Ok(Some(Name::new(alloc, "/lang")?))
-    } else if has_exports(alloc, settings, output.list(Field::Body))? {
+    } else if has_exports(alloc, settings, output.list(Field::Body))?
+        && !is_decorated(settings, output)
+    {
         Ok(None)
     } else {
         Ok(Some(Name::new(alloc, "/body")?))
@@ -99,6 +111,13 @@ fn has_exports(alloc: Global, settings: &Settings, statements: &[Part]) -> Resul
         same_spans(exports.as_slice(), settings.exports.as_slice())
             && (!settings.export_due || ends_in_export(statements)),
     )
+}
+
+/// Whether a decorator is left in the program, though none is to be.
+fn is_decorated(settings: &Settings, output: &Node) -> bool
+    ensures { result ≡ is_decorated (settings_view settings.now) (node_doc output.now) }
+{
+    settings.undecorated && has_decorator(output)
 }
 
 /// Whether the program is a script, and no module.

@@ -8,7 +8,7 @@ ghost use Rattle.oxt_options.specs.Options.{transform_view};
 ghost use Rattle.oxt_options.specs.Facts.{Answers};
 ghost use Rattle.oxt_resolve.specs.Resolved.{resolved};
 ghost use Rattle.oxt_told.specs.Source.{asked_of};
-ghost use Rattle.oxt_transform.specs.Expected.{expected_by, fault_of, keeps};
+ghost use Rattle.oxt_transform.specs.Expected.{expected_by, expected_view, fault_of, keeps};
 ghost use Rattle.oxt_transform.specs.Faults.{refusal_in, IsReasonFor, text_in, told_in};
 ghost use Rattle.oxt_transform.specs.Lowering.{IsTextOfOne, Lowers, Passes, ReturnsPlain};
 ghost use Rattle.oxt_transform.specs.Outcomes.{answer_of};
@@ -80,7 +80,7 @@ impl TransformerReturn {
 ///
 /// A wrapper around a target that may not be assigned to stays, and a diagnostic tells of it.
 ///
-/// Of the options those of decorators do not act yet: they say only which programs are left alone.
+/// Of the options `emit_decorator_metadata` and `strict_null_checks` do not act yet.
 ///
 /// # Errors
 ///
@@ -161,18 +161,32 @@ fn rewrite_and_test(
         (expected_by tables.scoping (asked_of tables.plan) (transform_view options.now) (node_doc program.old.root))
         (node_doc program.new.root)) }
 {
-    let expected = match Expected::of(
-        alloc,
-        &program.root,
-        &tables.scoping,
-        &tables.plan,
-        options,
-    ) {
-        Ok(expected) => expected,
-        Err(_) => return Err(Fault::OutOfMemory),
-    };
+    match Expected::of(alloc, &program.root, &tables.scoping, &tables.plan, options) {
+        Ok(expected) => rewrite_to(alloc, &expected, program, options, tables),
+        Err(_) => Err(Fault::OutOfMemory),
+    }
+}
+
+/// Rewrites the program, and tests what comes out against what is expected of it.
+///
+/// # Errors
+///
+/// How the output fails its test; nothing else but want of memory.
+fn rewrite_to(
+    alloc: Global,
+    expected: &Expected,
+    program: &mut Program,
+    options: &TransformOptions,
+    tables: Tables,
+) -> Result<(), Fault>
+    ensures judged { OnOk result (Judges (expected_view expected.now) (node_doc program.new.root) None) }
+    ensures comes_back { OnOk result (ComesBack (transform_view options.now)
+        (node_doc program.old.root) (node_doc program.new.root)) }
+    ensures failed { IfErr result (λ f. IsFailure (refusal_in f)
+        (expected_view expected.now) (node_doc program.new.root)) }
+{
     match rewrite(alloc, program, options, tables) {
-        Ok(()) => certify(alloc, &expected, &program.root),
+        Ok(()) => certify(alloc, expected, &program.root),
         Err(_) => Err(Fault::OutOfMemory),
     }
 }

@@ -4,12 +4,14 @@ ghost use Rattle.oxt_traverse.specs.Level.{IsLevel};
 
 use oxt_class::pass::ClassFields;
 use oxt_ctx::context::TraverseCtx;
+use oxt_decor::pass::Decorator;
 use oxt_erase::extensions::TypeScriptRewriteExtensions;
 use oxt_erase::module::TypeScriptModule;
 use oxt_erase::pass::TypeScriptAnnotations;
 use oxt_lower::namespace::TypeScriptNamespace;
 use oxt_lower::pass::TypeScriptEnum;
 use oxt_options::TransformOptions;
+use oxt_traverse::both::Both;
 use oxt_traverse::dispatch::{run_at_node, run_at_statements};
 use oxt_traverse::hook::Hook;
 use oxt_traverse::traverse::Traverse;
@@ -17,7 +19,8 @@ use oxt_tree::ids::OutOfMemory;
 use oxt_tree::tree::{Node, Part};
 use oxt_walk::walk::walk_program;
 
-/// Lowers the program by the TypeScript passes under the options, in one walk.
+/// Lowers the program by the pass of decorators and the TypeScript passes under the options, in one walk: at each hook
+/// the decorators come first.
 ///
 /// `program` is a node of kind `Program`.
 ///
@@ -32,7 +35,11 @@ pub fn lower_program(
 ) -> Result<(), OutOfMemory>
     ensures level { OnOk result (IsLevel ctx.old ctx.new) }
 {
-    walk_program(&mut TypeScript::new(options), program, ctx)
+    let mut passes = Both {
+        first: Decorator::new(ctx.memory(), options.decorator),
+        second: TypeScript::new(options),
+    };
+    walk_program(&mut passes, program, ctx)
 }
 
 /// The TypeScript passes: at each hook those of the passes that have it, in the order of the fields.

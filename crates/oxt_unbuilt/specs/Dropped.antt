@@ -1,13 +1,17 @@
 -- Declarations and class elements that stand for nothing at run time.
-use Rattle.std.specs.Prelude.{Bool, false, ◌&&◌, ◌||◌}
+use Rattle.std.specs.Prelude.{Bool, false, ◌&&◌, ◌||◌, if◌then◌else◌, codes}
 use Rattle.oxt_declares.specs.RoleOf.{role_of}
 use Rattle.oxt_declares.specs.TypesAlone.{field_of_types, stands_for_types}
 use Rattle.oxt_grammar.specs.Places.{kind_in, same_kind}
 use Rattle.oxt_grammar.specs.Rows.{row_of}
 use Rattle.oxt_grammar.specs.declared.category.Category.TheVariants as category
+use Rattle.oxt_grammar.specs.declared.field.Field.TheVariants as field
 use Rattle.oxt_grammar.specs.declared.kind.Kind.{Kind}
 use Rattle.oxt_grammar.specs.declared.kind.Kind.TheVariants as kind
+use Rattle.oxt_search.specs.declared.search.Inside.{Inside}
+use Rattle.oxt_search.specs.declared.search.Inside.TheVariants as inside
 use Rattle.oxt_tree.specs.Doc.{Doc, nil, flag, number, text, list, node, Docs}
+use Rattle.oxt_tree.specs.Fields.{is_set, named}
 use Rattle.oxt_tree.specs.Syntax.{is_erased}
 
 -- a declaration, or an element of a class
@@ -30,3 +34,12 @@ is_dropped (number n) = false
 is_dropped (text t) = false
 is_dropped (list ds) = false
 is_dropped (node k i b e ds) = is_dropped_by k ds
+
+-- a field that is only declared
+abbrev pub is_declared_field : Kind → Docs → Bool
+is_declared_field k ds = same_kind k kind.PropertyDefinition && is_set (named (codes "declare") k ds)
+
+-- What a search reaches inside such a node, in the state `s`: nothing but the decorators of a field that is only declared, where
+-- the flag says that decorators have their older meaning.
+abbrev pub inside_dropped_by : {S : Type 0} → Bool → Kind → Docs → S → Inside S
+inside_dropped_by legacy k ds s = if legacy && is_declared_field k ds then inside.Only field.Decorators s else inside.Skipped

@@ -1,11 +1,13 @@
 //! Declarations and class elements that stand for nothing at run time.
 ghost use Rattle.std.specs.Prelude.{◌≡◌};
-ghost use Rattle.oxt_unbuilt.specs.Dropped.{is_droppable, is_dropped, is_namespace_of_types};
+ghost use Rattle.oxt_unbuilt.specs.Dropped.{inside_dropped_by, is_declared_field, is_droppable, is_dropped, is_namespace_of_types};
 ghost use Rattle.oxt_tree.specs.View.{docs_in, node_doc, part_doc};
 
 use oxt_declares::types_alone::is_node_of_types;
 use oxt_grammar::category::Category;
+use oxt_grammar::field::Field;
 use oxt_grammar::kind::Kind;
+use oxt_search::search::Inside;
 use oxt_tree::tree::{Node, Part};
 
 /// Whether the node is a declaration or an element of a class that stands for nothing at run time: by
@@ -21,6 +23,25 @@ fn is_namespace_of_types(node: &Node) -> bool
     ensures { result ≡ is_namespace_of_types node.now.kind (docs_in node.now.parts.items) }
 {
     node.kind.is(Kind::TSNamespaceDeclaration) && is_node_of_types(node)
+}
+
+/// How a search goes on inside such a node: not at all, but for the decorators of a field that is only declared, which are
+/// not erased with it where decorators have their older meaning. These are reached in that state.
+pub fn inside_dropped<S: Copy>(legacy: bool, node: &Node, state: S) -> Inside<S>
+    ensures { result ≡ inside_dropped_by legacy node.now.kind (docs_in node.now.parts.items) state }
+{
+    if legacy && is_declared_field(node) {
+        Inside::Only(Field::Decorators, state)
+    } else {
+        Inside::Skipped
+    }
+}
+
+/// Whether the node is a field that is only declared.
+pub fn is_declared_field(node: &Node) -> bool
+    ensures { result ≡ is_declared_field node.now.kind (docs_in node.now.parts.items) }
+{
+    node.kind.is(Kind::PropertyDefinition) && node.flag(Field::Declare)
 }
 
 /// Whether the part is such a node.

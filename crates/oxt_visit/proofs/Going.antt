@@ -12,6 +12,7 @@ use Rattle.oxt_tree.specs.declared.tree.Part.{Part}
 use Rattle.oxt_visit.proofs.Called.{both_grown}
 use Rattle.oxt_visit.proofs.Rests.{drop_set}
 use Rattle.oxt_visit.specs.Calls.{Call, HasCalled, traces}
+use Rattle.oxt_visit.specs.Hooks.{Hooks}
 use Rattle.oxt_visit.specs.Place.{place_of}
 use Rattle.oxt_visit.specs.Walks.{Walks, WalksElements, WalksField, WalksFields, an_element, a_field, no_element, no_field, no_row}
 
@@ -72,53 +73,53 @@ goes_end trace a b Rest Whole front es fs last same before =
 -- ---- elements
 
 -- the elements from the place on are left to walk
-abbrev pub ElementsGo : (trace : Call → List Call) → (Doc → Doc → Type 0) → List Call → List Call → Category → Docs → ℕ → List Part → Type 0
-ElementsGo trace Leaves a b p ds i ps = Goes trace a b (WalksElements Leaves p (docs_in (drop i ps))) (WalksElements Leaves p ds) (behind i ps)
+abbrev pub ElementsGo : (trace : Call → List Call) → Hooks → (Doc → Doc → Type 0) → List Call → List Call → Category → Docs → ℕ → List Part → Type 0
+ElementsGo trace h Leaves a b p ds i ps = Goes trace a b (WalksElements h Leaves p (docs_in (drop i ps))) (WalksElements h Leaves p ds) (behind i ps)
 
-pub elements_on : (trace : Call → List Call) (Leaves : Doc → Doc → Type 0) (a b c : List Call) (place : Category) (ds : Docs) (ps : List Part) (i : ℕ) (p q : Part) → i < length ps → p ≡ get_or ps i p → HasCalled trace b c (λ cs. Walks Leaves place (part_doc p) cs (part_doc q)) → ElementsGo trace Leaves a b place ds i ps → ElementsGo trace Leaves a c place ds (i + 1) (set ps i q)
-elements_on trace Leaves a b c place ds ps i p q lt here one before =
+pub elements_on : (trace : Call → List Call) (h : Hooks) (Leaves : Doc → Doc → Type 0) (a b c : List Call) (place : Category) (ds : Docs) (ps : List Part) (i : ℕ) (p q : Part) → i < length ps → p ≡ get_or ps i p → HasCalled trace b c (λ cs. Walks h Leaves place (part_doc p) cs (part_doc q)) → ElementsGo trace h Leaves a b place ds i ps → ElementsGo trace h Leaves a c place ds (i + 1) (set ps i q)
+elements_on trace h Leaves a b c place ds ps i p q lt here one before =
     let split : docs_in (drop i ps) ≡ doc (part_doc p) (docs_in (drop (i + 1) (set ps i q))) = ap docs_in (drop_at ps i p lt here) ∙ ap (λ qs. doc (part_doc p) (docs_in qs)) (sym (drop_set ps i q)) in
-    goes_on trace a b c (λ cs. Walks Leaves place (part_doc p) cs (part_doc q)) (WalksElements Leaves place (docs_in (drop i ps))) (WalksElements Leaves place (docs_in (drop (i + 1) (set ps i q)))) (WalksElements Leaves place ds) (doc (part_doc q)) (behind i ps) (behind (i + 1) (set ps i q))
-    (λ cs ct es walk later. subst (λ xs. WalksElements Leaves place xs (cs ++ ct) (doc (part_doc q) es)) (sym split) (an_element place (part_doc p) (part_doc q) (docs_in (drop (i + 1) (set ps i q))) es cs ct walk later))
+    goes_on trace a b c (λ cs. Walks h Leaves place (part_doc p) cs (part_doc q)) (WalksElements h Leaves place (docs_in (drop i ps))) (WalksElements h Leaves place (docs_in (drop (i + 1) (set ps i q)))) (WalksElements h Leaves place ds) (doc (part_doc q)) (behind i ps) (behind (i + 1) (set ps i q))
+    (λ cs ct es walk later. subst (λ xs. WalksElements h Leaves place xs (cs ++ ct) (doc (part_doc q) es)) (sym split) (an_element place (part_doc p) (part_doc q) (docs_in (drop (i + 1) (set ps i q))) es cs ct walk later))
     (λ es. behind_set i ps q es lt)
     one before
 
-pub elements_end : (trace : Call → List Call) (Leaves : Doc → Doc → Type 0) (a b : List Call) (place : Category) (ds : Docs) (ps : List Part) (i : ℕ) → length ps ≤ i → ElementsGo trace Leaves a b place ds i ps → HasCalled trace a b (λ cs. WalksElements Leaves place ds cs (docs_in ps))
-elements_end trace Leaves a b place ds ps i last before =
-    goes_end trace a b (WalksElements Leaves place (docs_in (drop i ps))) (WalksElements Leaves place ds) (behind i ps) (docs_in (drop i ps)) (docs_in ps)
-    (subst (λ qs. WalksElements Leaves place (docs_in qs) [] (docs_in qs)) (sym (drop_end ps i last)) (no_element place))
+pub elements_end : (trace : Call → List Call) (h : Hooks) (Leaves : Doc → Doc → Type 0) (a b : List Call) (place : Category) (ds : Docs) (ps : List Part) (i : ℕ) → length ps ≤ i → ElementsGo trace h Leaves a b place ds i ps → HasCalled trace a b (λ cs. WalksElements h Leaves place ds cs (docs_in ps))
+elements_end trace h Leaves a b place ds ps i last before =
+    goes_end trace a b (WalksElements h Leaves place (docs_in (drop i ps))) (WalksElements h Leaves place ds) (behind i ps) (docs_in (drop i ps)) (docs_in ps)
+    (subst (λ qs. WalksElements h Leaves place (docs_in qs) [] (docs_in qs)) (sym (drop_end ps i last)) (no_element place))
     (behind_rest i ps)
     before
 
 -- ---- fields
 
-row_at : (rs : List Row) (i : ℕ) (r : Row) → i < length rs → drop i rs ≡ get_or rs i r ∷ drop (i + 1) rs
+pub row_at : (rs : List Row) (i : ℕ) (r : Row) → i < length rs → drop i rs ≡ get_or rs i r ∷ drop (i + 1) rs
 row_at rs i r lt = rw add-one (drop-cons rs i r lt)
 
 -- the fields from the place on are left to walk
-abbrev pub FieldsGo : (trace : Call → List Call) → (Doc → Doc → Type 0) → List Call → List Call → List Row → Docs → ℕ → List Part → Type 0
-FieldsGo trace Leaves a b rs ds i ps = Goes trace a b (WalksFields Leaves (map row_view (drop i rs)) (docs_in (drop i ps))) (WalksFields Leaves (map row_view rs) ds) (behind i ps)
+abbrev pub FieldsGo : (trace : Call → List Call) → Hooks → (Doc → Doc → Type 0) → List Call → List Call → List Row → Docs → ℕ → List Part → Type 0
+FieldsGo trace h Leaves a b rs ds i ps = Goes trace a b (WalksFields h Leaves (map row_view (drop i rs)) (docs_in (drop i ps))) (WalksFields h Leaves (map row_view rs) ds) (behind i ps)
 
-pub fields_on : (trace : Call → List Call) (Leaves : Doc → Doc → Type 0) (a b c : List Call) (rs : List Row) (ds : Docs) (ps : List Part) (i : ℕ) (r : Row) (p q : Part) → i < length rs → i < length ps → p ≡ get_or ps i p → HasCalled trace b c (λ cs. WalksField Leaves (place_of (get_or rs i r).holds) (part_doc p) cs (part_doc q)) → FieldsGo trace Leaves a b rs ds i ps → FieldsGo trace Leaves a c rs ds (i + 1) (set ps i q)
-fields_on trace Leaves a b c rs ds ps i r p q lt_rs lt_ps here one before =
+pub fields_on : (trace : Call → List Call) (h : Hooks) (Leaves : Doc → Doc → Type 0) (a b c : List Call) (rs : List Row) (ds : Docs) (ps : List Part) (i : ℕ) (r : Row) (p q : Part) → i < length rs → i < length ps → p ≡ get_or ps i p → HasCalled trace b c (λ cs. WalksField h Leaves (place_of (get_or rs i r).holds) (part_doc p) cs (part_doc q)) → FieldsGo trace h Leaves a b rs ds i ps → FieldsGo trace h Leaves a c rs ds (i + 1) (set ps i q)
+fields_on trace h Leaves a b c rs ds ps i r p q lt_rs lt_ps here one before =
     let split : docs_in (drop i ps) ≡ doc (part_doc p) (docs_in (drop (i + 1) (set ps i q))) = ap docs_in (drop_at ps i p lt_ps here) ∙ ap (λ qs. doc (part_doc p) (docs_in qs)) (sym (drop_set ps i q)) in
     let rows : map row_view (drop i rs) ≡ row_view (get_or rs i r) ∷ map row_view (drop (i + 1) rs) = ap (map row_view) (row_at rs i r lt_rs) in
     let later_rows = map row_view (drop (i + 1) rs) in
     let later_docs = docs_in (drop (i + 1) (set ps i q)) in
-    goes_on trace a b c (λ cs. WalksField Leaves (place_of (get_or rs i r).holds) (part_doc p) cs (part_doc q)) (WalksFields Leaves (map row_view (drop i rs)) (docs_in (drop i ps))) (WalksFields Leaves later_rows later_docs) (WalksFields Leaves (map row_view rs) ds) (doc (part_doc q)) (behind i ps) (behind (i + 1) (set ps i q))
-    (λ cs ct es walk later. subst (λ fs. WalksFields Leaves fs (docs_in (drop i ps)) (cs ++ ct) (doc (part_doc q) es)) (sym rows) (subst (λ xs. WalksFields Leaves (row_view (get_or rs i r) ∷ later_rows) xs (cs ++ ct) (doc (part_doc q) es)) (sym split) (a_field (row_view (get_or rs i r)) later_rows (part_doc p) (part_doc q) later_docs es cs ct walk later)))
+    goes_on trace a b c (λ cs. WalksField h Leaves (place_of (get_or rs i r).holds) (part_doc p) cs (part_doc q)) (WalksFields h Leaves (map row_view (drop i rs)) (docs_in (drop i ps))) (WalksFields h Leaves later_rows later_docs) (WalksFields h Leaves (map row_view rs) ds) (doc (part_doc q)) (behind i ps) (behind (i + 1) (set ps i q))
+    (λ cs ct es walk later. subst (λ fs. WalksFields h Leaves fs (docs_in (drop i ps)) (cs ++ ct) (doc (part_doc q) es)) (sym rows) (subst (λ xs. WalksFields h Leaves (row_view (get_or rs i r) ∷ later_rows) xs (cs ++ ct) (doc (part_doc q) es)) (sym split) (a_field (row_view (get_or rs i r)) later_rows (part_doc p) (part_doc q) later_docs es cs ct walk later)))
     (λ es. behind_set i ps q es lt_ps)
     one before
 
-fields_over : (Leaves : Doc → Doc → Type 0) (rs : List Row) (ps : List Part) (i : ℕ) → i ≡ min (length rs) (length ps) → WalksFields Leaves (map row_view (drop i rs)) (docs_in (drop i ps)) [] (docs_in (drop i ps))
-fields_over Leaves [] ps zero e = no_row (docs_in ps)
-fields_over Leaves [] ps (suc i) e = absurd (omega arith)
-fields_over Leaves (r ∷ rs) [] zero e = no_field (map row_view (r ∷ rs))
-fields_over Leaves (r ∷ rs) [] (suc i) e = absurd (omega arith)
-fields_over Leaves (r ∷ rs) (p ∷ ps) zero e = absurd (omega arith)
-fields_over Leaves (r ∷ rs) (p ∷ ps) (suc i) e = fields_over Leaves rs ps i (omega arith)
+no_field_over : (h : Hooks) (Leaves : Doc → Doc → Type 0) (rs : List Row) (ps : List Part) (i : ℕ) → i ≡ min (length rs) (length ps) → WalksFields h Leaves (map row_view (drop i rs)) (docs_in (drop i ps)) [] (docs_in (drop i ps))
+no_field_over h Leaves [] ps zero e = no_row (docs_in ps)
+no_field_over h Leaves [] ps (suc i) e = absurd (omega arith)
+no_field_over h Leaves (r ∷ rs) [] zero e = no_field (map row_view (r ∷ rs))
+no_field_over h Leaves (r ∷ rs) [] (suc i) e = absurd (omega arith)
+no_field_over h Leaves (r ∷ rs) (p ∷ ps) zero e = absurd (omega arith)
+no_field_over h Leaves (r ∷ rs) (p ∷ ps) (suc i) e = no_field_over h Leaves rs ps i (omega arith)
 
-pub fields_end : (trace : Call → List Call) (Leaves : Doc → Doc → Type 0) (a b : List Call) (fs : List Field) (rs : List Row) (ds : Docs) (ps : List Part) (i : ℕ) → map row_view rs ≡ fs → i ≡ min (length rs) (length ps) → FieldsGo trace Leaves a b rs ds i ps → HasCalled trace a b (λ cs. WalksFields Leaves fs ds cs (docs_in ps))
-fields_end trace Leaves a b fs rs ds ps i rows last before =
-    subst (λ gs. HasCalled trace a b (λ cs. WalksFields Leaves gs ds cs (docs_in ps))) rows
-    (goes_end trace a b (WalksFields Leaves (map row_view (drop i rs)) (docs_in (drop i ps))) (WalksFields Leaves (map row_view rs) ds) (behind i ps) (docs_in (drop i ps)) (docs_in ps) (fields_over Leaves rs ps i last) (behind_rest i ps) before)
+pub fields_end : (trace : Call → List Call) (h : Hooks) (Leaves : Doc → Doc → Type 0) (a b : List Call) (fs : List Field) (rs : List Row) (ds : Docs) (ps : List Part) (i : ℕ) → map row_view rs ≡ fs → i ≡ min (length rs) (length ps) → FieldsGo trace h Leaves a b rs ds i ps → HasCalled trace a b (λ cs. WalksFields h Leaves fs ds cs (docs_in ps))
+fields_end trace h Leaves a b fs rs ds ps i rows last before =
+    subst (λ gs. HasCalled trace a b (λ cs. WalksFields h Leaves gs ds cs (docs_in ps))) rows
+    (goes_end trace a b (WalksFields h Leaves (map row_view (drop i rs)) (docs_in (drop i ps))) (WalksFields h Leaves (map row_view rs) ds) (behind i ps) (docs_in (drop i ps)) (docs_in ps) (no_field_over h Leaves rs ps i last) (behind_rest i ps) before)

@@ -1,5 +1,6 @@
 pub mod Called
 pub mod Going
+pub mod Looked
 pub mod Rests
 pub mod Steps
 pub mod Watched

@@ -2,18 +2,18 @@
 use Rattle.std.specs.Prelude.{◌≡◌, ℕ, List, [], ◌∷◌, ◌++◌, if◌then◌else◌}
 use Rattle.oxt_grammar.specs.declared.kind.Kind.{Kind}
 use Rattle.oxt_tree.specs.Doc.{Doc}
-use Rattle.oxt_visit.specs.Scope.{opens_scope}
+use Rattle.oxt_visit.specs.Hooks.{Hooks}
 
--- an expression was visited, as the hook found it and as it left it; the scope of the node with that number was entered;
+-- a node was visited, as the hook found it and as it left it; the scope of the node with that number was entered;
 -- a scope was left
 pub data Call : Type 0 where
   visited : Doc → Doc → Call
   entered : ℕ → Call
   left : Call
 
--- the calls at the parts of a node, between those of its scope where it opens one
-abbrev pub in_scope : Kind → ℕ → List Call → List Call
-in_scope k n calls = if opens_scope k then entered n ∷ (calls ++ left ∷ []) else calls
+-- the calls at the parts of a node, between those of its scope where that is entered
+abbrev pub in_scope : Hooks → Kind → ℕ → List Call → List Call
+in_scope h k n calls = if h.enters k then entered n ∷ (calls ++ left ∷ []) else calls
 
 -- what a log gets of the calls, one after the other
 abbrev pub traces : (Call → List Call) → List Call → List Call
@@ -29,3 +29,8 @@ pub record HasCalled (trace : Call → List Call) (before after : List Call) (Ow
 -- Where the premise holds, the log has grown by what it gets of these calls.
 pub record HasLogged (Premise : Type 0) (trace : Call → List Call) (before after calls : List Call) : Type 0 where
   pub grown : Premise → after ≡ before ++ traces trace calls
+
+-- what is noted of the calls, one after the other
+abbrev pub noted : {A : Type 0} → (A → Call → A) → A → List Call → A
+noted note a [] = a
+noted note a (c ∷ cs) = noted note (note a c) cs

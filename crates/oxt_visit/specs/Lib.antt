@@ -1,4 +1,5 @@
 pub mod Calls
+pub mod Hooks
 pub mod Place
 pub mod Reading
 pub mod Scope

@@ -6,7 +6,6 @@ use Rattle.oxt_grammar.specs.declared.category.Category.TheVariants as category
 use Rattle.oxt_grammar.specs.declared.holds.Holds.{Holds}
 use Rattle.oxt_grammar.specs.declared.holds.Holds.TheVariants as holds
 use Rattle.oxt_grammar.specs.declared.kind.Kind.{Kind}
-use Rattle.oxt_tree.specs.Doc.{Doc, node}
 
 -- the place of the nodes that a field holds; none where it holds no nodes
 abbrev pub place_of : Holds → Option Category
@@ -32,8 +31,3 @@ holds_expressions c = false
 -- A node of the kind is an expression there: where none may stand it is none, whatever its kind.
 abbrev pub is_expression_kind : Category → Kind → Bool
 is_expression_kind p k = holds_expressions p && kind_in category.Expression k
-
--- The document is an expression there.
-abbrev pub is_expression : Category → Doc → Bool
-is_expression p (node k i b e ds) = is_expression_kind p k
-is_expression p d = false

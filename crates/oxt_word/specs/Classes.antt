@@ -11,6 +11,7 @@ use Rattle.oxt_grammar.specs.declared.kind.Kind.{Kind}
 use Rattle.oxt_grammar.specs.declared.kind.Kind.TheVariants as kind
 use Rattle.oxt_tree.specs.Doc.{Docs, flag, nil, text}
 use Rattle.oxt_tree.specs.Fields.{first, named}
+use Rattle.oxt_word.specs.Calls.{element_text, given_call, kept_key, tag_of}
 use Rattle.oxt_word.specs.Enums.{use_word}
 use Rattle.oxt_word.specs.Node.{OneField, AllFields}
 use Rattle.oxt_word.specs.Ways.{is_constructor}
@@ -94,10 +95,23 @@ gaining_constructor g fs =
     then fs (way.Head g.place) ++ (puts_word g fs ++ fs (way.Tail g.place))
     else made_constructor g fs
 
--- The body of such a class has empty fields in front and that constructor, and is else read by its own rule.
+-- the keys of a class that a made name holds, among which it is kept in front of those that no later key takes
+abbrev pub keeping_keys : Option (List ℕ) → AllFields → List Entry
+keeping_keys None fs = fs way.Keys
+keeping_keys (Some t) fs =
+    fs way.Keys ++ (lone item.This ++ (spelled item.Keep (text t) ++ fs way.Last))
+
+-- its static parts, of which the calls of the decorators of its elements may be the last
+abbrev pub calling_statics : Bool → AllFields → List Entry
+calling_statics b fs = if b then fs way.Statics ++ fs way.Calls else fs way.Statics
+
+-- The body of a class that has more in it than is written there has that in its keys and static parts, empty fields in front and
+-- that constructor, and is else read by its own rule.
 abbrev pub gaining_word : Gaining → Way → List Entry → AllFields → List Entry
-gaining_word g way.Fields own fs = empty_fields g.fields ++ fs way.Fields
-gaining_word g way.Constructor own fs = gaining_constructor g fs
+gaining_word g way.Keys own fs = keeping_keys g.alias fs
+gaining_word g way.Statics own fs = calling_statics g.has_calls fs
+gaining_word g way.Fields own fs = if g.gains then empty_fields g.fields ++ fs way.Fields else own
+gaining_word g way.Constructor own fs = if g.gains then gaining_constructor g fs else own
 gaining_word g w own fs = own
 
 -- the key of a put: what the made name holds, or what is written
@@ -111,21 +125,30 @@ field_put t c =
     lone item.This
     ++ (key_at_put t c ++ (c (codes "value") way.Whole ++ (lone item.Put ++ lone item.Eval)))
 
--- the key of a field that moves, among the keys: a made name holds it, or it is read as ever where the field stays
-abbrev pub moved_key : Option (List ℕ) → Bool → OneField → List Entry
-moved_key None s c = if s then c (codes "decorators") way.Whole ++ c (codes "key") way.Keyed else []
-moved_key (Some t) s c = c (codes "key") way.Whole ++ spelled item.Keep (text t)
+-- the key of an element, which is computed and kept for the call that the element gives, or read as ever
+abbrev pub element_key : Option (List ℕ) → OneField → List Entry
+element_key None c = c (codes "decorators") way.Whole ++ c (codes "key") way.Keyed
+element_key (Some t) c = kept_key t c
 
--- A field that moves is its key, the put of its value where that belongs, and, where it stays, an empty field.
-abbrev pub moving_word : Moving → Way → OneField → List Entry
-moving_word m way.Keys c = moved_key m.tag m.stays c
-moving_word m way.Statics c = if m.is_static then field_put m.tag c else []
-moving_word m way.Fields c =
-    if m.stays then empty_field m.is_static (c (codes "key") way.KeyText) else []
-moving_word m way.Puts c = if m.is_static then [] else field_put m.tag c
-moving_word m w c = []
+-- the key of a field that moves, among the keys: a made name holds it, or it is read where the field stays
+abbrev pub moved_key : Option (List ℕ) → Bool → Option (List ℕ) → OneField → List Entry
+moved_key None s o c = if s then element_key o c else []
+moved_key (Some t) s o c = c (codes "key") way.Whole ++ spelled item.Keep (text t)
+
+-- A field that moves is its key, the put of its value where that belongs, where it stays an empty field, and the call that it
+-- gives.
+abbrev pub moving_word : Moving → Way → Rule → OneField → List Entry
+moving_word m way.Keys r c = if m.is_last then [] else moved_key m.tag m.stays (tag_of m.call) c
+moving_word m way.Last r c = if m.is_last then moved_key m.tag m.stays (tag_of m.call) c else []
+moving_word m way.Statics r c = if m.is_static then field_put m.tag c else []
+moving_word m way.Fields r c =
+    if m.stays then empty_field m.is_static (element_text (tag_of m.call) c) else []
+moving_word m way.Puts r c = if m.is_static then [] else field_put m.tag c
+moving_word m way.Calls r c = given_call m.call r c
+moving_word m w r c = []
 
 -- A field that goes, but for the effects of its key, is its key, which is dropped.
-abbrev pub left_word : Way → OneField → List Entry
-left_word way.Keys c = dropped (c (codes "key") way.Whole)
-left_word w c = []
+abbrev pub left_word : Bool → Way → OneField → List Entry
+left_word b way.Keys c = if b then [] else dropped (c (codes "key") way.Whole)
+left_word b way.Last c = if b then dropped (c (codes "key") way.Whole) else []
+left_word b w c = []

@@ -1,4 +1,7 @@
+pub mod Accessors
+pub mod Calls
 pub mod Classes
+pub mod Decorated
 pub mod Enums
 pub mod Erased
 pub mod Modules

@@ -8,7 +8,7 @@ use Rattle.oxt_tree.specs.Fields.{named, field_of, is_nil, is_set, is_text, is_k
 use Rattle.oxt_facts.specs.Entry.{Entry, binding_text, detail, detailed, lone, spelled}
 use Rattle.oxt_facts.specs.Facts.{Known, is_made}
 use Rattle.oxt_forms.specs.Forms.{within, is_put, is_long, is_found, is_found_made, is_called, binding_of}
-use Rattle.oxt_forms.specs.Made.{base_in, base_key, base_name, is_found_made_on, is_keep, is_silent}
+use Rattle.oxt_forms.specs.Made.{base_in, is_found_made_on, is_keep, is_silent, made_tag}
 use Rattle.oxt_facts.specs.Inside.{stored_at}
 use Rattle.oxt_forms.specs.Details.{start}
 use Rattle.oxt_forms.specs.Leaves.{base_word, bind_word, dropped, name_word, number_word, private_word}
@@ -35,7 +35,7 @@ abbrev pub assignment_word : Known → Kind → Docs → OneField → AllFields 
 assignment_word f k ds c fs =
     if is_keep f k ds
     then c (codes "right") way.Whole
-    ++ spelled item.Keep (detail (field_of (codes "name") (within (codes "left") k ds)))
+    ++ spelled item.Keep (detail (made_tag f (within (codes "left") k ds)))
     else if is_put k ds
     then c (codes "left") way.Target ++ (c (codes "right") way.Whole ++ lone item.Put)
     else opened k ds (fs way.Whole)
@@ -76,7 +76,7 @@ logical_word f k ds c fs =
     if is_found f k ds then c (codes "left") way.Whole ++ lone item.Found
     else if is_found_made f k ds then c (codes "left") way.Whole ++ lone item.FoundMade
     else if is_found_made_on f k ds
-    then c (codes "left") way.Whole ++ (base_word (base_in k ds) ++ lone item.FoundMadeOn)
+    then c (codes "left") way.Whole ++ (base_word f (base_in k ds) ++ lone item.FoundMadeOn)
     else opened k ds (fs way.Whole)
 
 -- A declaration is its declarators; one without declarators is a node.

@@ -4,7 +4,7 @@ use Rattle.std.specs.Str.{bytes_eq}
 use Rattle.oxt_facts.specs.Facts.{Known, group_here}
 use Rattle.oxt_facts.specs.Groups.{numbered_groups}
 use Rattle.oxt_facts.specs.Inside.{inside}
-use Rattle.oxt_facts.specs.Told.{Telling, block, member, bare, inlined, gains, gone, leaves_key, listless, export, moves, quasi, space, stored, strict, told_of}
+use Rattle.oxt_facts.specs.Told.{Telling, accessor, alias, applied, block, called, member, bare, decorated, default_class, inlined, inner, gains, gone, leaves_key, listless, export, moves, quasi, space, stored, strict, titled, told_of}
 use Rattle.oxt_grammar.specs.Field.{Field}
 use Rattle.oxt_grammar.specs.Rows.{row_of}
 use Rattle.oxt_grammar.specs.declared.kind.Kind.{Kind}
@@ -16,7 +16,10 @@ use Rattle.oxt_facts.specs.Tags.{numbered}
 use Rattle.oxt_forms.specs.Details.{is_read}
 use Rattle.oxt_forms.specs.Leaves.{dropped}
 use Rattle.oxt_word.specs.Node.{OneField, AllFields}
+use Rattle.oxt_word.specs.Accessors.{accessor_word}
 use Rattle.oxt_word.specs.Classes.{first_word, gaining_word, head_word, later_word, left_word, moving_word, put_key_word, tail_word}
+use Rattle.oxt_word.specs.Calls.{alias_word, applied_word, called_word, decorator_word, injected_word, inner_word, through_word}
+use Rattle.oxt_word.specs.Decorated.{decorated_word, default_class_word, titled_word}
 use Rattle.oxt_word.specs.Enums.{bare_word, enum_word, inlined_word, is_exported, member_word}
 use Rattle.oxt_word.specs.Erased.{is_gone, gone_word}
 use Rattle.oxt_word.specs.Modules.{listless_word, program_word, quasi_word}
@@ -50,6 +53,10 @@ way_word f (way.First n) r k i ds c fs = first_word n r c
 way_word f (way.Later n) r k i ds c fs = later_word n r c
 way_word f way.Puts r k i ds c fs = []
 way_word f way.PutKey r k i ds c fs = put_key_word f r k i ds c fs
+way_word f way.Calls r k i ds c fs = through_word way.Calls r fs
+way_word f way.Last r k i ds c fs = through_word way.Last r fs
+way_word f way.Applied r k i ds c fs = applied_word r c
+way_word f way.Injected r k i ds c fs = injected_word r k ds c fs
 way_word f w r k i ds c fs = whole_word f r k i ds c fs
 
 -- the same, unless the node is erased
@@ -71,8 +78,16 @@ told_word f (Some (space s)) w r k i ds c fs = namespace_word s (is_exported w) 
 told_word f (Some (export t ns)) w r k i ds c fs = export_word t ns c
 told_word f (Some (stored t n)) w r k i ds c fs = stored_word t n w c
 told_word f (Some (gains g)) w r k i ds c fs = gaining_word g w (own_word f w r k i ds c fs) fs
-told_word f (Some (moves m)) w r k i ds c fs = moving_word m w c
-told_word f (Some leaves_key) w r k i ds c fs = left_word w c
+told_word f (Some (moves m)) w r k i ds c fs = moving_word m w r c
+told_word f (Some (leaves_key b)) w r k i ds c fs = left_word b w c
+told_word f (Some (called e)) w r k i ds c fs = called_word e w r k ds (own_word f w r k i ds c fs) c
+told_word f (Some (accessor a)) w r k i ds c fs = accessor_word a w r c
+told_word f (Some (decorated d)) w r k i ds c fs = decorated_word d w c
+told_word f (Some (titled t)) w r k i ds c fs = titled_word t c
+told_word f (Some (default_class b u)) w r k i ds c fs = default_class_word b u c
+told_word f (Some (applied p)) w r k i ds c fs = decorator_word p w c
+told_word f (Some (alias t)) w r k i ds c fs = alias_word t w
+told_word f (Some (inner g)) w r k i ds c fs = inner_word g w ds
 
 -- the same of the node of that number
 abbrev pub node_word : Known → Way → Rule → Kind → ℕ → Docs → OneField → AllFields → List Entry

@@ -26,7 +26,11 @@ use std::vec;
 
 /// Puts what stands in a class, in an order of its own.
 #[cycle(word)]
-fn put_class_parts(facts: &Facts, node: &Node, out: &mut Vec<Item>) -> Result<(), OutOfMemory>
+pub(crate) fn put_class_parts(
+    facts: &Facts,
+    node: &Node,
+    out: &mut Vec<Item>,
+) -> Result<(), OutOfMemory>
     ensures { OnOk result (entries out.new.items
         ≡ entries out.old.items ++ class_parts (each_field facts.now node.now)) }
 {

@@ -113,7 +113,7 @@ pub(crate) fn put_export_list(
 }
 
 /// Puts the use of a name that no scope of the source declares.
-fn put_free(alloc: Global, name: &str, out: &mut Vec<Item>) -> Result<(), OutOfMemory>
+pub(crate) fn put_free(alloc: Global, name: &str, out: &mut Vec<Item>) -> Result<(), OutOfMemory>
     ensures { OnOk result (entries out.new.items ≡ entries out.old.items ++ free_word name.now) }
 {
     let name = Atom::Text(Name::new(alloc, name)?);
@@ -155,7 +155,7 @@ fn put_required_start(alloc: Global, out: &mut Vec<Item>) -> Result<(), OutOfMem
 }
 
 /// Puts the start of a call that is neither optional nor pure.
-fn put_call_start(alloc: Global, out: &mut Vec<Item>) -> Result<(), OutOfMemory>
+pub(crate) fn put_call_start(alloc: Global, out: &mut Vec<Item>) -> Result<(), OutOfMemory>
     ensures { OnOk result (entries out.new.items
         ≡ entries out.old.items ++ start Kind.CallExpression (flag false ∷ flag false ∷ [])) }
 {

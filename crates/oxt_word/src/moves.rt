@@ -2,16 +2,19 @@
 //! are put elsewhere.
 ghost use Rattle.std.specs.Prelude.{◌≡◌, ◌∷◌, [], ◌++◌, OnOk, codes, false, map, option_map};
 ghost use Rattle.oxt_facts.specs.Entry.{entries, spelled};
-ghost use Rattle.oxt_facts.specs.Told.{gaining_view, moving_view, names_view};
+ghost use Rattle.oxt_facts.specs.Told.{calling_view, gaining_view, moving_view, names_view};
 ghost use Rattle.oxt_forms.specs.Details.{start};
+ghost use Rattle.oxt_forms.specs.Leaves.{dropped};
 ghost use Rattle.oxt_grammar.specs.declared.kind.Kind.TheVariants as kind;
 ghost use Rattle.oxt_tree.specs.Doc.{text};
 ghost use Rattle.oxt_tree.specs.Names.{name_bytes};
 ghost use Rattle.oxt_tree.specs.View.{docs_in};
-ghost use Rattle.oxt_word.specs.Classes.{empty_field, empty_fields, field_put, first_word, gaining_constructor, gaining_word, head_word, key_at_put, later_word, left_word, made_constructor, moved_key, moving_word, passing, property_put, property_puts, put_key_word, puts_word, tail_word};
+ghost use Rattle.oxt_word.specs.Calls.{element_text, tag_of};
+ghost use Rattle.oxt_word.specs.Classes.{calling_statics, element_key, empty_field, empty_fields, field_put, first_word, gaining_constructor, gaining_word, head_word, keeping_keys, key_at_put, later_word, left_word, made_constructor, moved_key, moving_word, passing, property_put, property_puts, put_key_word, puts_word, tail_word};
 ghost use Rattle.oxt_word.specs.RuleOf.{rule_of};
 ghost use Rattle.oxt_word.specs.Word.{all_fields, each_field, own_word};
 
+use crate::calls::{put_element_text, put_given, put_keep, put_kept_key, tag_of};
 use crate::class::put_element_key;
 use crate::enums::{put_operation, put_text, put_use};
 use crate::namespaces::put_made;
@@ -32,7 +35,7 @@ use oxt_tree::tree::Node;
 use std::alloc::Global;
 use std::vec;
 
-/// Puts the body of a class whose constructor puts more on the object than is written in it, read that way.
+/// Puts the body of a class that has more in it than is written there, read that way.
 #[cycle(word)]
 pub(crate) fn put_gaining(
     facts: &Facts,
@@ -47,10 +50,52 @@ pub(crate) fn put_gaining(
         (each_field facts.now node.now) (all_fields facts.now node.now)) (all_fields facts.now node.now)) }
 {
     match way {
-        Way::Fields => put_gained_fields(facts, class, node, out),
-        Way::Constructor => put_gaining_constructor(facts, class, node, out),
+        Way::Keys => put_keeping_keys(facts, &class.alias, node, out),
+        Way::Statics => put_calling_statics(facts, class.has_calls, node, out),
+        Way::Fields if class.gains => put_gained_fields(facts, class, node, out),
+        Way::Constructor if class.gains => put_gaining_constructor(facts, class, node, out),
         _ => put_own(facts, way, node, out),
     }
+}
+
+/// Puts the keys of a class, among which the made name of that tag may hold it, in front of those that no later key takes.
+#[cycle(word)]
+fn put_keeping_keys(
+    facts: &Facts,
+    alias: &Option<Name>,
+    node: &Node,
+    out: &mut Vec<Item>,
+) -> Result<(), OutOfMemory>
+    ensures { OnOk result (entries out.new.items ≡ entries out.old.items
+        ++ keeping_keys (option_map name_bytes alias.now) (all_fields facts.now node.now)) }
+{
+    match alias {
+        Some(tag) => {
+            put_fields(facts, node.kind.rows(), &node.parts, Way::Keys, out)?;
+            put_lone(facts.memory(), ItemKind::This, out)?;
+            put_keep(facts.memory(), tag, out)?;
+            put_fields(facts, node.kind.rows(), &node.parts, Way::Last, out)
+        }
+        None => put_fields(facts, node.kind.rows(), &node.parts, Way::Keys, out),
+    }
+}
+
+/// Puts the static parts of a class, of which the calls of the decorators of its elements may be the last.
+#[cycle(word)]
+fn put_calling_statics(
+    facts: &Facts,
+    has_calls: bool,
+    node: &Node,
+    out: &mut Vec<Item>,
+) -> Result<(), OutOfMemory>
+    ensures { OnOk result (entries out.new.items ≡ entries out.old.items
+        ++ calling_statics has_calls (all_fields facts.now node.now)) }
+{
+    if has_calls {
+        put_fields(facts, node.kind.rows(), &node.parts, Way::Statics, out)?;
+        return put_fields(facts, node.kind.rows(), &node.parts, Way::Calls, out);
+    }
+    put_fields(facts, node.kind.rows(), &node.parts, Way::Statics, out)
 }
 
 /// Puts the fields of such a class, with empty ones in front.
@@ -319,13 +364,16 @@ pub(crate) fn put_moving(
     out: &mut Vec<Item>,
 ) -> Result<(), OutOfMemory>
     ensures { OnOk result (entries out.new.items
-        ≡ entries out.old.items ++ moving_word (moving_view field.now) way (each_field facts.now node.now)) }
+        ≡ entries out.old.items
+        ++ moving_word (moving_view field.now) way (rule_of node.now.kind) (each_field facts.now node.now)) }
 {
     match way {
-        Way::Keys => put_moved_key(facts, field, node, out),
+        Way::Keys if !field.is_last => put_moved_key(facts, field, node, out),
+        Way::Last if field.is_last => put_moved_key(facts, field, node, out),
         Way::Statics if field.is_static => put_field_put(facts, field, node, out),
-        Way::Fields if field.stays => put_emptied(facts, field.is_static, node, out),
+        Way::Fields if field.stays => put_emptied(facts, field, node, out),
         Way::Puts if !field.is_static => put_field_put(facts, field, node, out),
+        Way::Calls => put_given(facts, &field.call, node, out),
         _ => Ok(()),
     }
 }
@@ -339,20 +387,33 @@ fn put_moved_key(
     out: &mut Vec<Item>,
 ) -> Result<(), OutOfMemory>
     ensures { OnOk result (entries out.new.items ≡ entries out.old.items
-        ++ moved_key (option_map name_bytes field.now.tag) field.now.stays (each_field facts.now node.now)) }
+        ++ moved_key (option_map name_bytes field.now.tag) field.now.stays (tag_of (option_map calling_view field.now.call))
+        (each_field facts.now node.now)) }
 {
     match &field.tag {
         Some(tag) => {
             put_field(facts, node, Field::Key, Way::Whole, out)?;
-            put_spelled(
-                facts.memory(),
-                ItemKind::Keep,
-                Atom::Text(tag.share()?),
-                out,
-            )
+            put_keep(facts.memory(), tag, out)
         }
-        None if field.stays => put_element_key(facts, node, out),
+        None if field.stays => put_staying_key(facts, tag_of(&field.call), node, out),
         None => Ok(()),
+    }
+}
+
+/// Puts the key of an element, which the made name of that tag may hold.
+#[cycle(word)]
+fn put_staying_key(
+    facts: &Facts,
+    tag: Option<&Name>,
+    node: &Node,
+    out: &mut Vec<Item>,
+) -> Result<(), OutOfMemory>
+    ensures { OnOk result (entries out.new.items ≡ entries out.old.items
+        ++ element_key (option_map (λ tag. name_bytes tag.now) tag.entry) (each_field facts.now node.now)) }
+{
+    match tag {
+        Some(tag) => put_kept_key(facts, tag, node, out),
+        None => put_element_key(facts, node, out),
     }
 }
 
@@ -360,15 +421,16 @@ fn put_moved_key(
 #[cycle(word)]
 fn put_emptied(
     facts: &Facts,
-    is_static: bool,
+    field: &ToldField,
     node: &Node,
     out: &mut Vec<Item>,
 ) -> Result<(), OutOfMemory>
     ensures { OnOk result (entries out.new.items ≡ entries out.old.items
-        ++ empty_field is_static (each_field facts.now node.now (codes "key") Way.KeyText)) }
+        ++ empty_field field.now.is_static (element_text (tag_of (option_map calling_view field.now.call))
+        (each_field facts.now node.now))) }
 {
-    put_field_start(facts.memory(), is_static, false, out)?;
-    put_field(facts, node, Field::Key, Way::KeyText, out)?;
+    put_field_start(facts.memory(), field.is_static, false, out)?;
+    put_element_text(facts, tag_of(&field.call), node, out)?;
     put_lone(facts.memory(), ItemKind::Nil, out)?;
     put_lone(facts.memory(), ItemKind::Define, out)
 }
@@ -410,22 +472,31 @@ fn put_key_at_put(
 
 /// Puts a field that goes, but for the effects of its key.
 #[cycle(word)]
-#[tactic(auto, using(oxt_forms::proofs::Drops::behind))]
 pub(crate) fn put_left(
     facts: &Facts,
+    is_last: bool,
     way: Way,
     node: &Node,
     out: &mut Vec<Item>,
 ) -> Result<(), OutOfMemory>
     ensures { OnOk result (entries out.new.items
-        ≡ entries out.old.items ++ left_word way (each_field facts.now node.now)) }
+        ≡ entries out.old.items ++ left_word is_last way (each_field facts.now node.now)) }
 {
     match way {
-        Way::Keys => {
-            let from = out.len();
-            put_field(facts, node, Field::Key, Way::Whole, out)?;
-            put_dropped(facts.memory(), from, out)
-        }
+        Way::Keys if !is_last => put_dropped_key(facts, node, out),
+        Way::Last if is_last => put_dropped_key(facts, node, out),
         _ => Ok(()),
     }
+}
+
+/// Puts a key that is dropped.
+#[cycle(word)]
+#[tactic(auto, using(oxt_forms::proofs::Drops::behind))]
+fn put_dropped_key(facts: &Facts, node: &Node, out: &mut Vec<Item>) -> Result<(), OutOfMemory>
+    ensures { OnOk result (entries out.new.items
+        ≡ entries out.old.items ++ dropped (each_field facts.now node.now (codes "key") Way.Whole)) }
+{
+    let from = out.len();
+    put_field(facts, node, Field::Key, Way::Whole, out)?;
+    put_dropped(facts.memory(), from, out)
 }

@@ -57,6 +57,16 @@ pub enum Way {
     Puts,
     /// As a key under which a value is put.
     PutKey,
+    /// As the keys of a class that no later key takes, behind what holds the class.
+    Last,
+    /// As the calls that the elements of a class give.
+    Calls,
+    /// As a class without the calls that stand behind it.
+    Uncalled,
+    /// As decorators that are applied.
+    Applied,
+    /// As a class, or a part of one, whose constructor's parameters are decorated.
+    Injected,
 }
 
 impl Way {

@@ -12,10 +12,15 @@ ghost use Rattle.oxt_word.specs.Whole.{arrow_word, assignment_word, body_word, c
 ghost use Rattle.oxt_word.specs.Word.{all_fields, each_field, each_said, fields_said, last_said, list_word, node_word, own_word, said, some_said, turns_said, way_word, word};
 ghost use Rattle.oxt_grammar.specs.Keys.{key_of};
 
+use crate::accessors::put_accessor;
+use crate::calls::{
+    put_alias, put_applied, put_called, put_decorator, put_injected, put_inner, put_through,
+};
 use crate::class::{
     put_class, put_class_expression, put_constructor, put_instance_fields, put_key_text, put_keyed,
     put_keys, put_methods, put_opened, put_passed, put_statics,
 };
+use crate::decorated::{put_decorated, put_default_class, put_titled};
 use crate::enums::{is_exported, put_bare, put_enum, put_inlined, put_member};
 use crate::gone::{is_gone, put_gone};
 use crate::modules::{
@@ -103,7 +108,17 @@ fn put_known(facts: &Facts, node: &Node, way: Way, out: &mut Vec<Item>) -> Resul
         Some(Told::Stored(stored)) => put_stored(facts, stored, way, node, out),
         Some(Told::Gains(class)) => put_gaining(facts, class, way, node, out),
         Some(Told::Moves(field)) => put_moving(facts, field, way, node, out),
-        Some(Told::LeavesKey) => put_left(facts, way, node, out),
+        Some(Told::LeavesKey(is_last)) => put_left(facts, *is_last, way, node, out),
+        Some(Told::Called(element)) => put_called(facts, element, way, node, out),
+        Some(Told::Accessor(accessor)) => put_accessor(facts, accessor, way, node, out),
+        Some(Told::Decorated(class)) => put_decorated(facts, class, way, node, out),
+        Some(Told::Named(tag)) => put_titled(facts, tag, node, out),
+        Some(Told::DefaultClass(is_decorated, name)) => {
+            put_default_class(facts, *is_decorated, name, node, out)
+        }
+        Some(Told::Applied(place)) => put_decorator(facts, *place, way, node, out),
+        Some(Told::Alias(tag)) => put_alias(facts.memory(), tag, way, out),
+        Some(Told::Inner(group)) => put_inner(facts.memory(), *group, way, node, out),
     }
 }
 
@@ -160,6 +175,10 @@ fn put_way(
         Way::Later(count) => put_ending(facts, count, rule, node, out),
         Way::Puts => Ok(()),
         Way::PutKey => put_put_key(facts, rule, node, out),
+        Way::Last => put_through(facts, Way::Last, rule, node, out),
+        Way::Calls => put_through(facts, Way::Calls, rule, node, out),
+        Way::Applied => put_applied(facts, rule, node, out),
+        Way::Injected => put_injected(facts, rule, node, out),
         _ => put_whole(facts, rule, node, out),
     }
 }
@@ -470,7 +489,12 @@ fn put_assignment(facts: &Facts, node: &Node, out: &mut Vec<Item>) -> Result<(),
 {
     if is_keep(facts, node) {
         put_field(facts, node, Field::Right, Way::Whole, out)?;
-        return put_spelled(facts.memory(), ItemKind::Keep, target_atom(node)?, out);
+        return put_spelled(
+            facts.memory(),
+            ItemKind::Keep,
+            target_atom(facts, node)?,
+            out,
+        );
     }
     if is_put(node) {
         put_field(facts, node, Field::Left, Way::Target, out)?;
@@ -571,7 +595,7 @@ fn put_logical(facts: &Facts, node: &Node, out: &mut Vec<Item>) -> Result<(), Ou
     }
     if is_found_made_on(facts, node) {
         put_field(facts, node, Field::Left, Way::Whole, out)?;
-        put_base(facts.memory(), node, out)?;
+        put_base(facts, node, out)?;
         return put_lone(facts.memory(), ItemKind::FoundMadeOn, out);
     }
     put_plain(facts, node, Way::Whole, out)

@@ -4,4 +4,4 @@ use Rattle.oxt_enum_checks.proofs.Memberless.{no_members}
 use Rattle.oxt_enum_checks.proofs.members.members_of.Goals as goal
 
 pub returns-then-not-has_members : goal.returns-then-not-has_members
-returns-then-not-has_members c = no_members c.args.scoping.now (node_doc c.args.program.now) c.has_members.result c.new.result.items c.has_members.ensures c.if-not-has_members.true c.new.ensures.items
+returns-then-not-has_members c = no_members c.args.legacy c.args.scoping.now (node_doc c.args.program.now) c.has_members.result c.new.result.items c.has_members.ensures c.if-not-has_members.true c.new.ensures.items

@@ -4,4 +4,4 @@ use Rattle.oxt_enum_checks.proofs.Memberless.{no_misused}
 use Rattle.oxt_enum_checks.proofs.misused.first_misused.Goals as goal
 
 pub returns-then-not-has_members : goal.returns-then-not-has_members
-returns-then-not-has_members c = no_misused c.args.scoping.now (node_doc c.args.program.now) c.has_members.result c.has_members.ensures c.if-not-has_members.true
+returns-then-not-has_members c = no_misused c.args.legacy c.args.scoping.now (node_doc c.args.program.now) c.has_members.result c.has_members.ensures c.if-not-has_members.true

@@ -5,4 +5,4 @@ use Rattle.oxt_tree.specs.View.{docs_in}
 use Rattle.oxt_enum_checks.proofs.shadowed.+find.Given as goal
 
 abbrev pub invariant-push_each-loop-part : goal.invariant-push_each-loop-part
-invariant-push_each-loop-part l = shadow_views l.initial.out.items ++ all_among l.scoping (docs_in l.parts) l.around ≡ shadow_views l.out.items ++ all_among l.scoping (docs_in (drop l.part-index l.parts)) l.around
+invariant-push_each-loop-part l = shadow_views l.initial.out.items ++ all_among l.legacy l.scoping (docs_in l.parts) l.around ≡ shadow_views l.out.items ++ all_among l.legacy l.scoping (docs_in (drop l.part-index l.parts)) l.around

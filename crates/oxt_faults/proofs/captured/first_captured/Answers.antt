@@ -7,4 +7,4 @@ use Rattle.oxt_faults.proofs.captured.first_captured.Goals as goal
 
 pub returns : goal.returns
 returns c =
-    marked_found c.args.scoping.now (is_in c.args.left_out.now) c.as_slice.result.now (node_doc c.args.program.now) _ (c.as_slice.ensures.value ∙ c.in_ok-marks.ensures) c.first_marked.ensures
+    marked_found c.args.legacy c.args.scoping.now (is_in c.args.left_out.now) c.as_slice.result.now (node_doc c.args.program.now) _ (c.as_slice.ensures.value ∙ c.in_ok-marks.ensures) c.first_marked.ensures

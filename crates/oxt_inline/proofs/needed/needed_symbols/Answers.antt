@@ -8,4 +8,4 @@ use Rattle.oxt_inline.proofs.needed.needed_symbols.Goals as goal
 
 pub returns : goal.returns
 returns c =
-    needed_by_table c.needed_with.result (table_at c.in_ok-constants.constants) c.args.scoping.now (is_in c.args.kept.now) (node_doc c.args.program.now) (typescript_view c.args.options.now) c.in_ok-constants.ensures c.needed_with.ensures
+    needed_by_table c.needed_with.result (table_at c.in_ok-constants.constants) c.args.scoping.now (is_in c.args.kept.now) (node_doc c.args.program.now) (typescript_view c.args.options.now) c.args.legacy c.in_ok-constants.ensures c.needed_with.ensures

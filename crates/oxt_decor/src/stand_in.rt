@@ -1,0 +1,133 @@
+//! Fields that are only declared, but decorated.
+//!
+//! Such a field goes, but its decorators are applied, and its key is computed for that. While the class is walked a
+//! private field without a value stands for it, which no other pass changes: it has the decorators of the field, and
+//! behind them one more, whose expression is the key.
+//!
+//! Before:
+//!
+//! ```ts
+//! class Point {
+//!     @noted declare [label()]: string;
+//! }
+//! ```
+//!
+//! After, as its parts are walked:
+//!
+//! ```js
+//! class Point {
+//!     @noted @label() #;
+//! }
+//! ```
+use crate::frame::ClassFrame;
+use crate::parts::{as_node, elements_mut};
+use indexmap::IndexSet;
+use oxt_ctx::nodes::{make, private_name};
+use oxt_ctx::parts::{list_mut, put_field, take_node};
+use oxt_decorated::calls::is_called;
+use oxt_grammar::field::Field;
+use oxt_grammar::kind::Kind;
+use oxt_tree::ids::{NodeIds, OutOfMemory};
+use oxt_tree::name::Name;
+use oxt_tree::tree::{Node, Part};
+use std::alloc::Global;
+use std::vec;
+
+/// Puts the elements that stand for them in the places of the decorated fields of the class which are only declared,
+/// if the class is a declaration.
+pub fn put_stand_ins(
+    alloc: Global,
+    class: &mut Node,
+    frame: &mut ClassFrame,
+    ids: &mut NodeIds,
+) -> Result<(), OutOfMemory> {
+    match elements_mut(class) {
+        Some(elements) if frame.is_declaration => {
+            hide_each(alloc, elements.as_mut_slice(), &mut frame.stand_ins, ids)
+        }
+        _ => Ok(()),
+    }
+}
+
+/// Does so among the elements, and notes their numbers.
+fn hide_each(
+    alloc: Global,
+    elements: &mut [Part],
+    stand_ins: &mut IndexSet<u64>,
+    ids: &mut NodeIds,
+) -> Result<(), OutOfMemory> {
+    for element in elements.iter_mut() {
+        hide_part(alloc, element, stand_ins, ids)?;
+    }
+    Ok(())
+}
+
+/// Does so where the element is such a field.
+fn hide_part(
+    alloc: Global,
+    element: &mut Part,
+    stand_ins: &mut IndexSet<u64>,
+    ids: &mut NodeIds,
+) -> Result<(), OutOfMemory> {
+    match element {
+        Part::Node(field) if is_hidden(field) => {
+            stand_ins.insert(field.id.0)?;
+            hide(alloc, field, ids)
+        }
+        _ => Ok(()),
+    }
+}
+
+/// Whether the element is a decorated field that is only declared.
+fn is_hidden(element: &Node) -> bool {
+    element.kind.is(Kind::PropertyDefinition) && element.flag(Field::Declare) && is_called(element)
+}
+
+/// Makes the field one that stands for it.
+fn hide(alloc: Global, field: &mut Node, ids: &mut NodeIds) -> Result<(), OutOfMemory> {
+    if let Some(key) = take_node(field, Field::Key) {
+        let decorator = make(Kind::Decorator, vec![in alloc; Part::Node(key)]?, ids)?;
+        if let Some(decorators) = list_mut(field, Field::Decorators) {
+            decorators.push(Part::Node(decorator))?;
+        }
+    }
+    let name = Name::new(alloc, "")?;
+    let key = private_name(alloc, &name, ids)?;
+    put_field(field, Field::Key, Part::Node(key));
+    put_field(field, Field::Declare, Part::Flag(false));
+    put_field(field, Field::Value, Part::Nothing);
+    Ok(())
+}
+
+/// Puts the key back into the field, if it stands for one.
+pub fn show_key(field: &mut Node, stand_ins: &IndexSet<u64>) {
+    if stand_ins.contains(&field.id.0) {
+        if let Some(key) = last_expression(field) {
+            put_field(field, Field::Key, Part::Node(key));
+        }
+    }
+}
+
+/// Takes the expression of the last of the decorators, which goes.
+fn last_expression(field: &mut Node) -> Option<Node> {
+    let mut decorator = as_node(list_mut(field, Field::Decorators)?.pop()?)?;
+    take_node(&mut decorator, Field::Expression)
+}
+
+/// Drops the elements of the class that stand for fields.
+pub fn drop_stand_ins(class: &mut Node, stand_ins: &IndexSet<u64>) {
+    if stand_ins.is_empty() {
+        return;
+    }
+    if let Some(elements) = elements_mut(class) {
+        elements.retain(|element| !is_stand_in(element, stand_ins));
+    }
+}
+
+/// Whether the element is one.
+fn is_stand_in(element: &Part, stand_ins: &IndexSet<u64>) -> bool {
+    match element {
+        Part::Node(node) => stand_ins.contains(&node.id.0),
+        _ => false,
+    }
+}

@@ -1,0 +1,5 @@
+pub mod Calls
+pub mod PrivateIn
+pub mod Statics
+pub mod Storage
+pub mod Text

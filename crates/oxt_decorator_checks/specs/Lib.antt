@@ -1,0 +1,4 @@
+pub mod Classes
+pub mod Moved
+pub mod Privates
+pub mod Stations

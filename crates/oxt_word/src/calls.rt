@@ -1,0 +1,534 @@
+//! The effect word of the calls that decorators give: those of the elements of a class, the names by which it is called, and the
+//! elements themselves.
+ghost use Rattle.std.specs.Prelude.{◌≡◌, [], ◌++◌, OnOk, codes, false, option_map};
+ghost use Rattle.oxt_facts.specs.Entry.{entries, lone, spelled};
+ghost use Rattle.oxt_facts.specs.Told.{calling_view, element_view, use_view};
+ghost use Rattle.oxt_tree.specs.Doc.{flag, number, text};
+ghost use Rattle.oxt_tree.specs.Names.{name_bytes};
+ghost use Rattle.oxt_tree.specs.View.{docs_in};
+ghost use Rattle.oxt_word.specs.Calls.{alias_word, applied_word, called_key, called_word, calling_word, decorator_word, decorators_list, decorators_word, description_word, element_text, given_call, helper_start, injected_word, inner_word, kept_key, kept_word, keyless_field, keyless_method, receiver_word, staying_word, subject_word, tag_of, tagged_word, through_word, used_word};
+ghost use Rattle.oxt_word.specs.RuleOf.{rule_of};
+ghost use Rattle.oxt_word.specs.Word.{all_fields, each_field, own_word};
+
+use crate::enums::{put_operation, put_use};
+use crate::modules::{put_call_start, put_free};
+use crate::namespaces::put_made;
+use crate::rule::Rule;
+use crate::rule_of::rule_of;
+use crate::way::Way;
+use crate::word::{put_field, put_fields, put_own};
+use oxt_facts::facts::Facts;
+use oxt_facts::item::{Atom, Item, ItemKind};
+use oxt_facts::told::{ToldCall, ToldElement, ToldUse};
+use oxt_forms::put::{
+    field_atom, first_atom, put_field_start, put_lone, put_owned, put_spelled, put_start,
+};
+use oxt_grammar::field::Field;
+use oxt_grammar::kind::Kind;
+use oxt_tree::ids::OutOfMemory;
+use oxt_tree::name::Name;
+use oxt_tree::tree::Node;
+use std::alloc::Global;
+use std::vec;
+
+/// Puts what is called by that name.
+pub(crate) fn put_used(
+    alloc: Global,
+    name: &ToldUse,
+    out: &mut Vec<Item>,
+) -> Result<(), OutOfMemory>
+    ensures { OnOk result (entries out.new.items
+        ≡ entries out.old.items ++ used_word (use_view name.now)) }
+{
+    match name {
+        ToldUse::Name(name) => put_use(alloc, &name.name, name.group, out),
+        ToldUse::Made(tag) => put_made(alloc, tag, out),
+    }
+}
+
+/// Puts a name that is read as the made one of that tag, read that way.
+pub(crate) fn put_alias(
+    alloc: Global,
+    tag: &Name,
+    way: Way,
+    out: &mut Vec<Item>,
+) -> Result<(), OutOfMemory>
+    ensures { OnOk result (entries out.new.items
+        ≡ entries out.old.items ++ alias_word (name_bytes tag.now) way) }
+{
+    match way {
+        Way::Keyed => {
+            put_made(alloc, tag, out)?;
+            put_lone(alloc, ItemKind::Key, out)
+        }
+        Way::KeyText => Ok(()),
+        _ => put_made(alloc, tag, out),
+    }
+}
+
+/// Puts a name that means that group, read that way.
+pub(crate) fn put_inner(
+    alloc: Global,
+    group: u64,
+    way: Way,
+    node: &Node,
+    out: &mut Vec<Item>,
+) -> Result<(), OutOfMemory>
+    ensures { OnOk result (entries out.new.items
+        ≡ entries out.old.items ++ inner_word group way (docs_in node.now.parts.items)) }
+{
+    match way {
+        Way::Keyed => {
+            put_inner_use(alloc, group, node, out)?;
+            put_lone(alloc, ItemKind::Key, out)
+        }
+        Way::KeyText => Ok(()),
+        _ => put_inner_use(alloc, group, node, out),
+    }
+}
+
+/// Puts the use of the name, which means that group.
+fn put_inner_use(
+    alloc: Global,
+    group: u64,
+    node: &Node,
+    out: &mut Vec<Item>,
+) -> Result<(), OutOfMemory>
+    ensures { OnOk result (entries out.new.items
+        ≡ entries out.old.items ++ inner_word group Way.Whole (docs_in node.now.parts.items)) }
+{
+    let name = first_atom(node)?;
+    put_owned(Some(group), ItemKind::Name, name, Vec::new(alloc), out)
+}
+
+/// Puts that the made name of that tag then holds the value.
+pub(crate) fn put_keep(alloc: Global, tag: &Name, out: &mut Vec<Item>) -> Result<(), OutOfMemory>
+    ensures { OnOk result (entries out.new.items
+        ≡ entries out.old.items ++ spelled ItemKind.Keep (text (name_bytes tag.now))) }
+{
+    put_spelled(alloc, ItemKind::Keep, Atom::Text(tag.share()?), out)
+}
+
+/// The same, if one does.
+pub(crate) fn put_kept(
+    alloc: Global,
+    tag: Option<&Name>,
+    out: &mut Vec<Item>,
+) -> Result<(), OutOfMemory>
+    ensures { OnOk result (entries out.new.items
+        ≡ entries out.old.items ++ kept_word (option_map (λ tag. name_bytes tag.now) tag.entry)) }
+{
+    match tag {
+        Some(tag) => put_keep(alloc, tag, out),
+        None => Ok(()),
+    }
+}
+
+/// Puts the start of a call of that function of `babelHelpers`.
+pub(crate) fn put_helper_start(
+    alloc: Global,
+    helper: &str,
+    out: &mut Vec<Item>,
+) -> Result<(), OutOfMemory>
+    ensures { OnOk result (entries out.new.items ≡ entries out.old.items ++ helper_start helper.now) }
+{
+    put_call_start(alloc, out)?;
+    put_free(alloc, "babelHelpers", out)?;
+    put_member(alloc, helper, out)
+}
+
+/// Puts the read of the member of that name.
+fn put_member(alloc: Global, name: &str, out: &mut Vec<Item>) -> Result<(), OutOfMemory>
+    ensures { OnOk result (entries out.new.items ≡ entries out.old.items
+        ++ (spelled ItemKind.Str (text name.now) ++ spelled ItemKind.Get (flag false))) }
+{
+    put_spelled(
+        alloc,
+        ItemKind::Str,
+        Atom::Text(Name::new(alloc, name)?),
+        out,
+    )?;
+    put_spelled(alloc, ItemKind::Get, Atom::Flag(false), out)
+}
+
+/// Puts a decorator, read that way, which decorates the parameter at that place if it is one of a parameter.
+#[cycle(word)]
+pub(crate) fn put_decorator(
+    facts: &Facts,
+    place: Option<u64>,
+    way: Way,
+    node: &Node,
+    out: &mut Vec<Item>,
+) -> Result<(), OutOfMemory>
+    ensures { OnOk result (entries out.new.items
+        ≡ entries out.old.items ++ decorator_word place way (each_field facts.now node.now)) }
+{
+    match way {
+        Way::Applied => match place {
+            Some(place) => put_parameter_decorator(facts, place, node, out),
+            None => put_field(facts, node, Field::Expression, Way::Whole, out),
+        },
+        _ => Ok(()),
+    }
+}
+
+/// Puts the call that decorates the parameter at that place.
+#[cycle(word)]
+fn put_parameter_decorator(
+    facts: &Facts,
+    place: u64,
+    node: &Node,
+    out: &mut Vec<Item>,
+) -> Result<(), OutOfMemory>
+    ensures { OnOk result (entries out.new.items ≡ entries out.old.items
+        ++ (helper_start (codes "decorateParam")
+        ++ (spelled ItemKind.Num (number place) ++ (each_field facts.now node.now (codes "expression") Way.Whole
+        ++ lone ItemKind.Close)))) }
+{
+    put_helper_start(facts.memory(), "decorateParam", out)?;
+    put_spelled(facts.memory(), ItemKind::Num, Atom::Number(place), out)?;
+    put_field(facts, node, Field::Expression, Way::Whole, out)?;
+    put_lone(facts.memory(), ItemKind::Close, out)
+}
+
+/// Puts the decorators of the parameters of a function.
+#[cycle(word)]
+pub(crate) fn put_applied(
+    facts: &Facts,
+    rule: Rule,
+    node: &Node,
+    out: &mut Vec<Item>,
+) -> Result<(), OutOfMemory>
+    ensures { OnOk result (entries out.new.items
+        ≡ entries out.old.items ++ applied_word rule (each_field facts.now node.now)) }
+{
+    match rule {
+        Rule::FunctionExpression => put_field(facts, node, Field::Params, Way::Applied, out),
+        Rule::Parameters => put_field(facts, node, Field::Items, Way::Applied, out),
+        Rule::Parameter => put_field(facts, node, Field::Decorators, Way::Applied, out),
+        _ => Ok(()),
+    }
+}
+
+/// Puts the decorators of the parameters of a class's constructor.
+#[cycle(word)]
+pub(crate) fn put_injected(
+    facts: &Facts,
+    rule: Rule,
+    node: &Node,
+    out: &mut Vec<Item>,
+) -> Result<(), OutOfMemory>
+    ensures { OnOk result (entries out.new.items ≡ entries out.old.items
+        ++ injected_word rule node.now.kind (docs_in node.now.parts.items) (each_field facts.now node.now)
+        (all_fields facts.now node.now)) }
+{
+    match rule {
+        Rule::Bare => put_fields(facts, node.kind.rows(), &node.parts, Way::Injected, out),
+        Rule::Method if node.holds_text(Field::Kind, "constructor") => {
+            put_field(facts, node, Field::Value, Way::Applied, out)
+        }
+        _ => Ok(()),
+    }
+}
+
+/// Puts what only some elements of a class give by what is told of them.
+#[cycle(word)]
+pub(crate) fn put_through(
+    facts: &Facts,
+    way: Way,
+    rule: Rule,
+    node: &Node,
+    out: &mut Vec<Item>,
+) -> Result<(), OutOfMemory>
+    ensures { OnOk result (entries out.new.items
+        ≡ entries out.old.items ++ through_word way rule (all_fields facts.now node.now)) }
+{
+    match rule {
+        Rule::Bare => put_fields(facts, node.kind.rows(), &node.parts, way, out),
+        _ => Ok(()),
+    }
+}
+
+/// Puts the decorators of an element, and of its parameters if it is a method.
+#[cycle(word)]
+fn put_decorators(
+    facts: &Facts,
+    rule: Rule,
+    node: &Node,
+    out: &mut Vec<Item>,
+) -> Result<(), OutOfMemory>
+    ensures { OnOk result (entries out.new.items
+        ≡ entries out.old.items ++ decorators_word rule (each_field facts.now node.now)) }
+{
+    match rule {
+        Rule::Method => {
+            put_field(facts, node, Field::Decorators, Way::Applied, out)?;
+            put_field(facts, node, Field::Value, Way::Applied, out)
+        }
+        _ => put_field(facts, node, Field::Decorators, Way::Applied, out),
+    }
+}
+
+/// Puts the list of these.
+#[cycle(word)]
+fn put_decorators_list(facts: &Facts, node: &Node, out: &mut Vec<Item>) -> Result<(), OutOfMemory>
+    ensures { OnOk result (entries out.new.items ≡ entries out.old.items
+        ++ decorators_list (rule_of node.now.kind) (each_field facts.now node.now)) }
+{
+    put_start(Kind::ArrayExpression, Vec::new(facts.memory()), out)?;
+    put_decorators(facts, rule_of(node.kind), node, out)?;
+    put_lone(facts.memory(), ItemKind::Close, out)
+}
+
+/// Puts the object that has an element: the class itself, or that of its instances.
+fn put_receiver(
+    alloc: Global,
+    class: &ToldUse,
+    is_static: bool,
+    out: &mut Vec<Item>,
+) -> Result<(), OutOfMemory>
+    ensures { OnOk result (entries out.new.items
+        ≡ entries out.old.items ++ receiver_word (use_view class.now) is_static) }
+{
+    put_used(alloc, class, out)?;
+    if is_static {
+        return Ok(());
+    }
+    put_member(alloc, "prototype", out)
+}
+
+/// Puts the key of the element that is called.
+#[cycle(word)]
+fn put_called_key(
+    facts: &Facts,
+    call: &ToldCall,
+    node: &Node,
+    out: &mut Vec<Item>,
+) -> Result<(), OutOfMemory>
+    ensures { OnOk result (entries out.new.items ≡ entries out.old.items
+        ++ called_key (option_map name_bytes call.now.tag) call.now.is_private (each_field facts.now node.now)) }
+{
+    match &call.tag {
+        Some(tag) => put_made(facts.memory(), tag, out),
+        None if call.is_private => put_no_text(facts.memory(), out),
+        None => put_field(facts, node, Field::Key, Way::PutKey, out),
+    }
+}
+
+/// Puts the object that has the element, and its key.
+#[cycle(word)]
+fn put_subject(
+    facts: &Facts,
+    call: &ToldCall,
+    node: &Node,
+    out: &mut Vec<Item>,
+) -> Result<(), OutOfMemory>
+    ensures { OnOk result (entries out.new.items
+        ≡ entries out.old.items ++ subject_word (calling_view call.now) (each_field facts.now node.now)) }
+{
+    put_receiver(facts.memory(), &call.class, call.is_static, out)?;
+    put_called_key(facts, call, node, out)
+}
+
+/// Puts the empty text.
+fn put_no_text(alloc: Global, out: &mut Vec<Item>) -> Result<(), OutOfMemory>
+    ensures { OnOk result (entries out.new.items ≡ entries out.old.items ++ spelled ItemKind.Str (text [])) }
+{
+    put_spelled(alloc, ItemKind::Str, Atom::Text(Name::new(alloc, "")?), out)
+}
+
+/// Puts the description of an element: `void 0` of a field, and `null` of others.
+fn put_description(alloc: Global, is_field: bool, out: &mut Vec<Item>) -> Result<(), OutOfMemory>
+    ensures { OnOk result (entries out.new.items ≡ entries out.old.items ++ description_word is_field) }
+{
+    if is_field {
+        put_operation(alloc, Kind::UnaryExpression, "void", out)?;
+        put_spelled(alloc, ItemKind::Num, Atom::Number(0), out)?;
+        return put_lone(alloc, ItemKind::Close, out);
+    }
+    put_start(Kind::NullLiteral, Vec::new(alloc), out)?;
+    put_lone(alloc, ItemKind::Close, out)
+}
+
+/// Puts the call that an element of a class gives.
+#[cycle(word)]
+fn put_calling(
+    facts: &Facts,
+    call: &ToldCall,
+    node: &Node,
+    out: &mut Vec<Item>,
+) -> Result<(), OutOfMemory>
+    ensures { OnOk result (entries out.new.items ≡ entries out.old.items
+        ++ calling_word (calling_view call.now) (rule_of node.now.kind) (each_field facts.now node.now)) }
+{
+    let alloc = facts.memory();
+    put_helper_start(alloc, "decorate", out)?;
+    put_decorators_list(facts, node, out)?;
+    put_subject(facts, call, node, out)?;
+    put_description(alloc, call.is_field, out)?;
+    put_lone(alloc, ItemKind::Close, out)?;
+    put_lone(alloc, ItemKind::Eval, out)
+}
+
+/// The same, if it gives one.
+#[cycle(word)]
+pub(crate) fn put_given(
+    facts: &Facts,
+    call: &Option<ToldCall>,
+    node: &Node,
+    out: &mut Vec<Item>,
+) -> Result<(), OutOfMemory>
+    ensures { OnOk result (entries out.new.items ≡ entries out.old.items
+        ++ given_call (option_map calling_view call.now) (rule_of node.now.kind) (each_field facts.now node.now)) }
+{
+    match call {
+        Some(call) => put_calling(facts, call, node, out),
+        None => Ok(()),
+    }
+}
+
+/// The tag by which the key of an element that gives such a call is kept.
+pub(crate) fn tag_of(call: &Option<ToldCall>) -> Option<&Name>
+    ensures { option_map (λ tag. name_bytes tag.now) result ≡ tag_of (option_map calling_view call.now) }
+{
+    match call {
+        Some(call) => call.tag.as_ref(),
+        None => None,
+    }
+}
+
+/// Puts a computed key, whose value the made name of that tag holds.
+#[cycle(word)]
+pub(crate) fn put_kept_key(
+    facts: &Facts,
+    tag: &Name,
+    node: &Node,
+    out: &mut Vec<Item>,
+) -> Result<(), OutOfMemory>
+    ensures { OnOk result (entries out.new.items
+        ≡ entries out.old.items ++ kept_key (name_bytes tag.now) (each_field facts.now node.now)) }
+{
+    put_field(facts, node, Field::Key, Way::Whole, out)?;
+    put_keep(facts.memory(), tag, out)?;
+    put_lone(facts.memory(), ItemKind::Key, out)
+}
+
+/// Puts the text of the key of an element, unless the made name of that tag holds it.
+#[cycle(word)]
+pub(crate) fn put_element_text(
+    facts: &Facts,
+    tag: Option<&Name>,
+    node: &Node,
+    out: &mut Vec<Item>,
+) -> Result<(), OutOfMemory>
+    ensures { OnOk result (entries out.new.items ≡ entries out.old.items
+        ++ element_text (option_map (λ tag. name_bytes tag.now) tag.entry) (each_field facts.now node.now)) }
+{
+    match tag {
+        Some(_) => Ok(()),
+        None => put_field(facts, node, Field::Key, Way::KeyText, out),
+    }
+}
+
+/// Puts a field whose key was read among the keys.
+#[cycle(word)]
+fn put_keyless_field(
+    facts: &Facts,
+    is_static: bool,
+    node: &Node,
+    out: &mut Vec<Item>,
+) -> Result<(), OutOfMemory>
+    ensures { OnOk result (entries out.new.items
+        ≡ entries out.old.items ++ keyless_field is_static (each_field facts.now node.now)) }
+{
+    put_field_start(facts.memory(), is_static, false, out)?;
+    put_field(facts, node, Field::Value, Way::Whole, out)?;
+    put_lone(facts.memory(), ItemKind::Define, out)
+}
+
+/// Puts a method whose key was read among the keys.
+#[cycle(word)]
+fn put_keyless_method(facts: &Facts, node: &Node, out: &mut Vec<Item>) -> Result<(), OutOfMemory>
+    ensures { OnOk result (entries out.new.items ≡ entries out.old.items
+        ++ keyless_method node.now.kind (docs_in node.now.parts.items) (each_field facts.now node.now)) }
+{
+    let details = vec![in facts.memory();
+        field_atom(node, Field::Kind)?,
+        field_atom(node, Field::Static)?,
+    ]?;
+    put_start(node.kind, details, out)?;
+    put_field(facts, node, Field::Value, Way::Whole, out)?;
+    put_lone(facts.memory(), ItemKind::Close, out)
+}
+
+/// Puts an element whose key the made name of that tag holds, read that way.
+#[cycle(word)]
+fn put_tagged(
+    facts: &Facts,
+    tag: &Name,
+    call: &ToldCall,
+    way: Way,
+    node: &Node,
+    out: &mut Vec<Item>,
+) -> Result<(), OutOfMemory>
+    ensures { OnOk result (entries out.new.items ≡ entries out.old.items
+        ++ tagged_word (name_bytes tag.now) (calling_view call.now) way node.now.kind (docs_in node.now.parts.items)
+        (own_word facts.now way (rule_of node.now.kind) node.now.kind node.now.id.0 (docs_in node.now.parts.items)
+        (each_field facts.now node.now) (all_fields facts.now node.now)) (each_field facts.now node.now)) }
+{
+    match way {
+        Way::Keys => put_kept_key(facts, tag, node, out),
+        Way::Statics if call.is_field && call.is_static => {
+            put_keyless_field(facts, true, node, out)
+        }
+        Way::Statics => Ok(()),
+        Way::Fields if call.is_field && !call.is_static => {
+            put_keyless_field(facts, false, node, out)
+        }
+        Way::Fields => Ok(()),
+        Way::Methods if call.is_field => Ok(()),
+        Way::Methods => put_keyless_method(facts, node, out),
+        _ => put_own(facts, way, node, out),
+    }
+}
+
+/// Puts an element that stays, read that way.
+#[cycle(word)]
+fn put_staying(
+    facts: &Facts,
+    call: &ToldCall,
+    way: Way,
+    node: &Node,
+    out: &mut Vec<Item>,
+) -> Result<(), OutOfMemory>
+    ensures { OnOk result (entries out.new.items ≡ entries out.old.items
+        ++ staying_word (option_map name_bytes call.now.tag) (calling_view call.now) way node.now.kind (docs_in node.now.parts.items)
+        (own_word facts.now way (rule_of node.now.kind) node.now.kind node.now.id.0 (docs_in node.now.parts.items)
+        (each_field facts.now node.now) (all_fields facts.now node.now)) (each_field facts.now node.now)) }
+{
+    match &call.tag {
+        Some(tag) => put_tagged(facts, tag, call, way, node, out),
+        None => put_own(facts, way, node, out),
+    }
+}
+
+/// Puts an element that gives a call, read that way.
+#[cycle(word)]
+pub(crate) fn put_called(
+    facts: &Facts,
+    element: &ToldElement,
+    way: Way,
+    node: &Node,
+    out: &mut Vec<Item>,
+) -> Result<(), OutOfMemory>
+    ensures { OnOk result (entries out.new.items ≡ entries out.old.items
+        ++ called_word (element_view element.now) way (rule_of node.now.kind) node.now.kind (docs_in node.now.parts.items)
+        (own_word facts.now way (rule_of node.now.kind) node.now.kind node.now.id.0 (docs_in node.now.parts.items)
+        (each_field facts.now node.now) (all_fields facts.now node.now)) (each_field facts.now node.now)) }
+{
+    match way {
+        Way::Calls => put_calling(facts, &element.call, node, out),
+        _ if element.stays => put_staying(facts, &element.call, way, node, out),
+        _ => Ok(()),
+    }
+}
