@@ -1,7 +1,7 @@
 #!/usr/bin/env python3
 """Runs the TypeScript modules of a folder as the program lowers them and as other compilers do, and compares what they do.
 
-    tools/run_modules.py [--node-path PATH] [--assigned] OXT FOLDER
+    tools/run_modules.py [--node-path PATH] [--assigned | --decorated] OXT FOLDER
 
 OXT is the built program `oxt`, and FOLDER holds the modules, as NAME.ts. They are lowered by way of `adapters/node`. PATH, or
 else the variable NODE_PATH, names the folder of node's modules that has `typescript` and `@babel/core`. Node is 20.6 or later.
@@ -10,7 +10,8 @@ else the variable NODE_PATH, names the folder of node's modules that has `typesc
 of them refuses has another's text there, for those that import it. A module imports another as "./NAME.mjs", "./NAME.js"
 or "./NAME". Compared are what it prints, its status, and the name and type of each of its exports. A compiler that
 finds the source faulty, as an old tsc finds new syntax, is passed over. With `--assigned` public fields are set by assignment
-and empty ones go, in `oxt` by its flags and in tsc by `useDefineForClassFields: false`; Babel is then left out.
+and empty ones go, in `oxt` by its flags and in tsc by `useDefineForClassFields: false`; with `--decorated` decorators have their older
+meaning, in `oxt` by `--legacy`, with a `babelHelpers` of this tool, and in tsc by `experimentalDecorators`. Babel is then left out.
 
 Prints a line for each module: `same`, `differs` with the compiler and the first line, `refused` with the program's
 line, or `unread` where no tree or no other text can be made of the source. Then the counts. The status is 1 if a module
@@ -44,6 +45,8 @@ const compile = (source, filename) =>
 COMPILERS = {"tsc": TSC, "babel": BABEL}
 ASSIGNED = {"tsc": TSC.replace("useDefineForClassFields: true", "useDefineForClassFields: false")}
 ASSIGNED_FLAGS = ["--set-public-class-fields", "--remove-empty-fields"]
+DECORATED = {"tsc": TSC.replace("isolatedModules: true", "isolatedModules: true, experimentalDecorators: true")}
+DECORATED_FLAGS = ["--legacy"]
 # Compiles each pair of files that it is given; what fails is not written.
 COMPILE_ALL = """
 const fs = require("fs");
@@ -56,6 +59,17 @@ RESOLVE = """export async function resolve(name, context, next) {
   try { return await next(name, context); } catch { return next(name.replace(/\\.js$/, "") + ".mjs", context); }
 }"""
 REGISTER = 'import { register } from "node:module"; register("./resolve.mjs", import.meta.url);'
+# The functions that calls of decorators name.
+HELPERS = """
+const decorate = (decorators, target, key, wanted) => {
+  const isMember = key !== undefined;
+  let made = isMember ? (wanted === null ? Object.getOwnPropertyDescriptor(target, key) : wanted) : target;
+  for (const decorator of decorators.reverse()) made = (isMember ? decorator(target, key, made) : decorator(made)) ?? made;
+  if (isMember && made !== undefined) Object.defineProperty(target, key, made);
+  return made;
+};
+const decorateParam = (index, decorator) => (target, key) => { decorator(target, key, index); };
+globalThis.babelHelpers = { decorate, decorateParam };"""
 RUN = """const it = await import(process.argv[1]);
 for (const name of Object.keys(it)) console.log(`export ${name}: ${typeof it[name]}`);"""
 
@@ -86,7 +100,7 @@ def compile_all(compilers, folder, names, room):
     for side in ("oxt", *compilers):
         shutil.copytree(folder, room / side, symlinks=True, ignore=shutil.ignore_patterns("*.ts"))
         (room / side / "resolve.mjs").write_text(RESOLVE)
-        (room / side / "register.mjs").write_text(REGISTER)
+        (room / side / "register.mjs").write_text(REGISTER + HELPERS)
     for side, code in compilers.items():
         pairs = [(str(folder / f"{name}.ts"), str(room / side / f"{name}.mjs")) for name in names]
         node(["-e", code + COMPILE_ALL], json.dumps(pairs).encode())
@@ -124,10 +138,19 @@ def compare(room, name, sides):
     return f"same as {' and '.join(sides)}, {len(lines)} lines" + (f", status {status}" if status != 0 else "")
 
 
+def compared(words):
+    """The compilers and the flags of the program that the words ask for."""
+    if words.assigned:
+        return ASSIGNED, ASSIGNED_FLAGS
+    return (DECORATED, DECORATED_FLAGS) if words.decorated else (COMPILERS, [])
+
+
 def main():
     parser = argparse.ArgumentParser(description=__doc__.split("\n", 1)[0])
     parser.add_argument("--node-path", default=os.environ.get("NODE_PATH", DEFAULT_NODE_PATH))
-    parser.add_argument("--assigned", action="store_true", help="public fields are set by assignment, and empty ones go")
+    ways = parser.add_mutually_exclusive_group()
+    ways.add_argument("--assigned", action="store_true", help="public fields are set by assignment, and empty ones go")
+    ways.add_argument("--decorated", action="store_true", help="decorators have their older meaning")
     for word in ("program", "folder"):
         parser.add_argument(word, type=lambda path: Path(path).resolve())
     words = parser.parse_args()
@@ -136,10 +159,10 @@ def main():
     counts = collections.Counter()
     with tempfile.TemporaryDirectory() as temporary:
         room = Path(temporary)
-        sides = compile_all(ASSIGNED if words.assigned else COMPILERS, words.folder, names, room)
+        compilers, flags = compared(words)
+        sides = compile_all(compilers, words.folder, names, room)
         answers = {}
         for name in names:
-            flags = ASSIGNED_FLAGS if words.assigned else []
             answers[name] = lower(words.program, flags, words.folder / f"{name}.ts", room / "oxt" / f"{name}.mjs")
             lend(room, name, sides[name])
         for name in names:
