@@ -19,7 +19,7 @@ from trees import Differences, words_and_cases
 
 FLAGS = (
     "--only-remove-type-imports", "--optimize-enums", "--optimize-const-enums", "--no-namespaces", "--set-public-class-fields",
-    "--no-declare-fields", "--remove-empty-fields", "--legacy",
+    "--no-declare-fields", "--remove-empty-fields", "--legacy", "--emit-decorator-metadata", "--no-strict-null-checks",
 )
 # Flags with a value, with those that are tried.
 CHOICES = {"--module": ("commonjs", "esm"), "--rewrite-extensions": ("rewrite", "remove")}

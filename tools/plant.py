@@ -7,7 +7,8 @@ The number of the bug is where the program's span starts, so that one program se
 that erases types stand in place of one of its hooks, on examples/forms.json. Those of the other passes leave out one of their
 hooks, or put something else at one place of what they have made: for enums on examples/enums.json, for namespaces, modules
 and the extensions in their names on examples/namespaces.json, for classes on examples/fields.json, where fields move and empty ones
-go, where empty ones go, and where all stay, and for decorators on examples/decorators.json."""
+go, where empty ones go, and where all stay, for decorators on examples/decorators.json, and for their metadata on
+examples/metadata.json, and on examples/decorators.json once more."""
 import json
 import re
 import shutil
@@ -22,7 +23,8 @@ MOVED, DROPPED = ("--set-public-class-fields", "--remove-empty-fields"), ("--rem
 ENUMS, NAMESPACES = "crates/oxt_lower/src/pass.rt", "crates/oxt_lower/src/namespace.rt"
 MODULES, EXTENSIONS = "crates/oxt_erase/src/module.rt", "crates/oxt_erase/src/extensions.rt"
 CLASSES, DECORATORS = "crates/oxt_class/src/pass.rt", "crates/oxt_decor/src/legacy.rt"
-LEGACY = ("--legacy",)
+METADATA = "crates/oxt_decor/src/metadata.rt"
+LEGACY, TYPED = ("--legacy",), ("--legacy", "--emit-decorator-metadata")
 NOTHING = "{}"
 GONE = "Part::List(Vec::new(*node.parts.allocator()))"
 
@@ -272,6 +274,66 @@ DECORATOR_BUGS = [
     (f"{DECORATED}.7.value.body.statements.0.argument.arguments.0.callee.object.name", text("Users")),
 ]
 
+# The types of a decorated class: of its accessor, of its method and of its constructor.
+ACCESSOR_TYPES, METHOD_TYPES, CLASS_TYPES = (f"{call}.arguments.0.elements" for call in (ACCESSOR_CALL, METHOD_CALL, CLASS_CALL))
+
+# Where these are told too: the hook for constructors, and places in what is made.
+CLASS_METADATA_BUGS = [
+    (METADATA, "EnterClass"),
+    (ACCESSOR_TYPES, "without(old, 1)"),
+    (ACCESSOR_TYPES, "without(old, 2)"),
+    (ACCESSOR_TYPES, "swapped(old, 1)?"),
+    (f"{ACCESSOR_TYPES}.1.arguments.1.name", text("Function")),
+    (f"{ACCESSOR_TYPES}.2.arguments.1", name("Object")),
+    (METHOD_TYPES, "swapped(old, 1)?"),
+    (METHOD_TYPES, "swapped(old, 3)?"),
+    (METHOD_TYPES, "without(old, 4)"),
+    (f"{METHOD_TYPES}.4.arguments.1.name", text("Promise")),
+    (CLASS_TYPES, "without_last(old)"),
+    (CLASS_TYPES, "swapped(old, 1)?"),
+    (f"{CLASS_TYPES}.2.arguments.0.value", text("design:type")),
+    (f"{CLASS_TYPES}.2.arguments.1.elements", "without_first(old)"),
+    (f"{CLASS_TYPES}.2.arguments.1.elements.0.name", text("Map")),
+]
+
+# The types of two fields, one of them a dotted name, of a method, and of a getter.
+SHAPE, LENGTH = ("body.5.expression.arguments.0.elements", "body.6.expression.arguments.0.elements")
+LOAD, BOX_KIND = ("body.8.expression.arguments.0.elements", "body.9.expression.arguments.0.elements")
+NAMED, DOTTED = f"{SHAPE}.1.arguments.1", f"{LENGTH}.1.arguments.1"
+
+# The hooks for methods and fields, and places in what is made for types of each sort.
+METADATA_BUGS = [
+    (METADATA, "EnterMethodDefinition"),
+    (METADATA, "EnterPropertyDefinition"),
+    ("body", "without(old, 1)"),
+    ("body", "without(old, 3)"),
+    (SHAPE, "without(old, 1)"),
+    (f"{SHAPE}.1.callee.property.name", text("decorateParam")),
+    (NAMED, "inside(old, Field::Alternate)"),
+    (NAMED, "inside(old, Field::Consequent)"),
+    (f"{NAMED}.alternate.name", text("noted")),
+    (f"{NAMED}.consequent.name", text("Function")),
+    (f"{NAMED}.test", "inside(old, Field::Right)"),
+    (f"{NAMED}.test.left", "inside(old, Field::Argument)"),
+    (f"{NAMED}.test.operator", text("!==")),
+    (f"{NAMED}.test.right.value", text("object")),
+    (f"{DOTTED}.test", "inside(old, Field::Right)"),
+    (f"{DOTTED}.test", "inside(old, Field::Left)"),
+    (f"{DOTTED}.test.operator", text("&&")),
+    (f"{DOTTED}.alternate", "inside(old, Field::Object)"),
+    (f"{DOTTED}.alternate.property.name", text("Width")),
+    ("body.7.expression.arguments.0.elements.1.arguments.1.name", text("Size")),
+    (LOAD, "without(old, 3)"),
+    (f"{LOAD}.2.arguments.1.elements", "swapped(old, 0)?"),
+    (f"{LOAD}.2.arguments.1.elements", "without_last(old)"),
+    (f"{LOAD}.2.arguments.1.elements", "doubled(alloc, old, 0, ids)?"),
+    (f"{LOAD}.2.arguments.1.elements.1.name", text("Number")),
+    (f"{LOAD}.3.arguments.0.value", text("design:type")),
+    (f"{LOAD}.3.arguments.1.name", text("Object")),
+    (f"{BOX_KIND}.1.arguments.1.name", text("Function")),
+    (BOX_KIND, "doubled(alloc, old, 2, ids)?"),
+]
+
 # What they are written with.
 HELPERS = """
 fn field<'a>(node: &'a mut Node, field: Field) -> &'a mut Part {
@@ -365,12 +427,14 @@ RUNS = [
     ("fields", DROPPED, DROPPED_BUGS),
     ("fields", (), STAYING_BUGS),
     ("decorators", LEGACY, DECORATOR_BUGS),
+    ("decorators", TYPED, CLASS_METADATA_BUGS),
+    ("metadata", TYPED, METADATA_BUGS),
 ]
 BUGS = dict(enumerate([bug for _, _, bugs in RUNS for bug in bugs], 1))
 # Those of the passes but that which erases types: a hook that is left out, or a place and what comes there.
 LATER_BUGS = {number: bug for number, bug in BUGS.items() if number > len(ERASER_BUGS)}
 # The files of the passes.
-PASSES = (ENUMS, NAMESPACES, MODULES, EXTENSIONS, CLASSES, DECORATORS)
+PASSES = (ENUMS, NAMESPACES, MODULES, EXTENSIONS, CLASSES, DECORATORS, METADATA)
 NUMBERED = "if hook == Hook::EnterProgram { self.bug = node.span.start; }"
 
 
@@ -481,6 +545,13 @@ def planted_decorators(source):
                                     ("            decorated: None,\n", "            decorated: None,\n            bug: 0,\n")), DECORATORS))
 
 
+def planted_metadata(source):
+    """The pass that reads the types of what is decorated with its bugs in it."""
+    return with_lines(*left_out(put(source, ("    fields: SparseStack<Node>,\n}", "    fields: SparseStack<Node>,\n    bug: u32,\n}"),
+                                    ("            fields: SparseStack::new(alloc),\n", "            fields: SparseStack::new(alloc),\n            bug: 0,\n"),
+                                    ("_hook: Hook,", "hook: Hook,")), METADATA))
+
+
 PLANTED = {
     "crates/oxt_erase/src/pass.rt": planted_eraser,
     ENUMS: planted_enums,
@@ -489,6 +560,7 @@ PLANTED = {
     EXTENSIONS: planted_extensions,
     CLASSES: planted_classes,
     DECORATORS: planted_decorators,
+    METADATA: planted_metadata,
 }
 
 

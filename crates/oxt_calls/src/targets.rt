@@ -47,7 +47,7 @@ fn of_text(
 }
 
 fn of_program(alloc: Global, program: &Node, lines: &mut Lines) -> Result<(), Stopped> {
-    let targets = WrappedTargets::of(alloc, program)?;
+    let targets = WrappedTargets::of(alloc, program, false)?;
     lines.numbers("len", &[targets.len() as u64])?;
     lines.begin("the nodes that it has")?;
     for number in 1..10 {

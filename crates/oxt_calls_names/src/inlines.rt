@@ -6,6 +6,7 @@ use oxt_inline::inlined::inlined_expressions;
 use oxt_lines::lines::Lines;
 use oxt_lines::stopped::Stopped;
 use oxt_lines::table::Table;
+use oxt_metadata::symbols::NamedSymbols;
 use oxt_modules::kept::kept_nodes;
 use oxt_options::options::TypeScriptOptions;
 use oxt_resolve::resolve::resolve;
@@ -23,7 +24,7 @@ struct Choice {
 /// What is found of an enum and a `const` enum, under each choice.
 pub fn print_inlines(alloc: Global, table: &Table, lines: &mut Lines) -> Result<(), Stopped> {
     let program = table.tree(alloc, TREE)?;
-    let scoping = resolve(alloc, &program.root)?;
+    let scoping = resolve(alloc, &program.root, false)?;
     lines.heading(TREE)?;
     print_choices(alloc, &program.root, &scoping, lines)
 }
@@ -79,7 +80,8 @@ fn print_inlined(
     options: &TypeScriptOptions,
     lines: &mut Lines,
 ) -> Result<(), Stopped> {
-    let kept = kept_nodes(alloc, program, scoping, options, false)?;
+    let named = NamedSymbols::none(alloc);
+    let kept = kept_nodes(alloc, program, scoping, &named, options, false)?;
     let inlined = inlined_expressions(alloc, program, scoping, &kept, options)?;
     lines.begin("inlined")?;
     for expression in &inlined {
@@ -98,8 +100,9 @@ fn print_dropped(
     options: &TypeScriptOptions,
     lines: &mut Lines,
 ) -> Result<(), Stopped> {
-    let kept = kept_nodes(alloc, program, scoping, options, false)?;
-    let dropped = dropped_blocks(alloc, program, scoping, &kept, options, false)?;
+    let named = NamedSymbols::none(alloc);
+    let kept = kept_nodes(alloc, program, scoping, &named, options, false)?;
+    let dropped = dropped_blocks(alloc, program, scoping, &kept, &named, options, false)?;
     lines.begin("dropped")?;
     for block in &dropped {
         lines.number_value(block.0)?;

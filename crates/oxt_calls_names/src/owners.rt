@@ -57,7 +57,7 @@ fn print_groups(
 /// The groups of the names of a tree.
 fn groups_in(alloc: Global, table: &Table, tree: &str) -> Result<NameGroups, Stopped> {
     let program = table.tree(alloc, tree)?;
-    let scoping = resolve(alloc, &program.root)?;
+    let scoping = resolve(alloc, &program.root, false)?;
     Ok(groups_of(alloc, &program.root, &scoping)?)
 }
 

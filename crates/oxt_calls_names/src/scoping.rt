@@ -37,7 +37,7 @@ fn resolved(alloc: Global, table: &Table, lines: &mut Lines) -> Result<(), Stopp
 }
 
 fn of_tree(alloc: Global, root: &Node, lines: &mut Lines) -> Result<(), Stopped> {
-    let mut scoping = resolve(alloc, root)?;
+    let mut scoping = resolve(alloc, root, false)?;
     in_scopes(alloc, &mut scoping, lines)
 }
 

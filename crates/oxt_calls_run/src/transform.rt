@@ -51,7 +51,7 @@ fn settings(alloc: Global, table: &Table, lines: &mut Lines) -> Result<(), Stopp
 
 /// What is expected of the output of a source, of which no specifier is kept.
 fn expected_of(alloc: Global, root: &Node) -> Result<Expected, Stopped> {
-    let scoping = resolve(alloc, root)?;
+    let scoping = resolve(alloc, root, false)?;
     let plan = Plan::empty(alloc);
     let options = TransformOptions::defaults(alloc)?;
     Ok(Expected::of(alloc, root, &scoping, &plan, &options)?)

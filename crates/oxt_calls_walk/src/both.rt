@@ -107,7 +107,7 @@ fn is_seen_in(
     end: Option<Hook>,
     hook: Hook,
 ) -> Result<bool, Stopped> {
-    let table = resolve(alloc, &program.root)?;
+    let table = resolve(alloc, &program.root, false)?;
     is_seen_by(alloc, table, program, end, hook)
 }
 

@@ -28,7 +28,7 @@ pub fn print_passes(alloc: Global, table: &Table, lines: &mut Lines) -> Result<(
 /// Walks the program by the pass that does nothing.
 fn walked(alloc: Global, program: &mut Program, lines: &mut Lines) -> Result<(), Stopped> {
     print_outline(alloc, "a program", &program.root, lines)?;
-    let table = resolve(alloc, &program.root)?;
+    let table = resolve(alloc, &program.root, false)?;
     walk_by(alloc, table, program)
 }
 

@@ -13,7 +13,7 @@ use std::alloc::Global;
 ///
 /// Fails only where memory runs out.
 pub fn first_lines_of(alloc: Global, program: &Node) -> Result<String, OutOfMemory> {
-    let scoping = resolve(alloc, program)?;
+    let scoping = resolve(alloc, program, false)?;
     let blocks = first_blocks(alloc, program, &scoping)?;
     lines_from(alloc, blocks.as_slice())
 }
@@ -33,7 +33,7 @@ fn lines_from(alloc: Global, numbers: &[NodeId]) -> Result<String, OutOfMemory> 
 ///
 /// Fails only where memory runs out.
 pub fn clash_lines_of(alloc: Global, program: &Node) -> Result<String, OutOfMemory> {
-    let scoping = resolve(alloc, program)?;
+    let scoping = resolve(alloc, program, false)?;
     let clash = first_clash(alloc, program, &scoping)?;
     let mut lines = String::new(alloc);
     match clash {

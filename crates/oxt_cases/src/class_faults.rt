@@ -22,7 +22,7 @@ pub fn lines_of(
     program: &Node,
     options: &TransformOptions,
 ) -> Result<String, OutOfMemory> {
-    let scoping = resolve(alloc, program)?;
+    let scoping = resolve(alloc, program, options.decorator.legacy)?;
     lines_from(alloc, program, &scoping, options)
 }
 

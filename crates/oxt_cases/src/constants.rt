@@ -112,7 +112,7 @@ fn push_numbered(
 ///
 /// Fails only where memory runs out.
 pub fn block_lines_of(alloc: Global, program: &Node) -> Result<String, OutOfMemory> {
-    let scopes = scopes_of(alloc, program)?;
+    let scopes = scopes_of(alloc, program, false)?;
     let enums = enums_of(alloc, program, scopes.as_slice())?;
     let blocks = blocks_of(alloc, scopes.as_slice())?;
     block_lines_from(alloc, &enums, blocks.as_slice())

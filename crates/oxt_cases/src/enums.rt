@@ -73,7 +73,7 @@ fn names_of_members<'a>(
 ///
 /// Fails only where memory runs out.
 pub fn lines_of(alloc: Global, program: &Program) -> Result<String, OutOfMemory> {
-    let scopes = scopes_of(alloc, &program.root)?;
+    let scopes = scopes_of(alloc, &program.root, false)?;
     let enums = enums_of(alloc, &program.root, scopes.as_slice())?;
     lines_from(alloc, program, scopes.as_slice(), &enums)
 }

@@ -16,7 +16,7 @@ use std::alloc::Global;
 ///
 /// Fails only where memory runs out.
 pub fn lines_of(alloc: Global, program: &Node) -> Result<String, OutOfMemory> {
-    let scoping = resolve(alloc, program)?;
+    let scoping = resolve(alloc, program, false)?;
     lines_from(alloc, program, &scoping)
 }
 

@@ -40,7 +40,7 @@ pub fn lines_of(
 
 /// The line of the names that nothing writes to.
 fn never_written_line(alloc: Global, program: &Node) -> Result<String, OutOfMemory> {
-    let scoping = resolve(alloc, program)?;
+    let scoping = resolve(alloc, program, false)?;
     let nodes = never_written_nodes(alloc, program, &scoping)?;
     let mut lines = String::from_str(alloc, "never written")?;
     for node in &nodes {
@@ -57,7 +57,7 @@ fn push_classes(
     options: &TransformOptions,
     lines: &mut String,
 ) -> Result<(), OutOfMemory> {
-    let scoping = resolve(alloc, program)?;
+    let scoping = resolve(alloc, program, options.decorator.legacy)?;
     let plan = plan_of(alloc, program, &scoping, options)?;
     let rules = FieldRules::new(options, &plan);
     for node in nodes_of(alloc, program)? {

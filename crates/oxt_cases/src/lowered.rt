@@ -5,7 +5,7 @@ use crate::told::listed_plan;
 use oxt_ctx::context::TraverseCtx;
 use oxt_json_write::write_tree;
 use oxt_lower::pass::TypeScriptEnum;
-use oxt_options::options::{Module, TypeScriptOptions};
+use oxt_options::options::{DecoratorOptions, Module, TypeScriptOptions};
 use oxt_options::state::TransformState;
 use oxt_resolve::resolve::resolve;
 use oxt_tree::ids::OutOfMemory;
@@ -53,8 +53,14 @@ fn context_of(
     program: &Program,
     options: &TypeScriptOptions,
 ) -> Result<TraverseCtx, OutOfMemory> {
-    let scoping = resolve(alloc, &program.root)?;
-    let plan = listed_plan(alloc, &program.root, &scoping, options, false)?;
+    let scoping = resolve(alloc, &program.root, false)?;
+    let plan = listed_plan(
+        alloc,
+        &program.root,
+        &scoping,
+        options,
+        DecoratorOptions::defaults(),
+    )?;
     Ok(TraverseCtx::new(alloc, scoping, plan, STATE, program.ids))
 }
 

@@ -20,7 +20,7 @@ use std::alloc::Global;
 /// Fails only where memory runs out.
 pub fn lines_of(alloc: Global, program: &Node) -> Result<String, OutOfMemory> {
     let nodes = nodes_of(alloc, program)?;
-    let scoping = resolve(alloc, program)?;
+    let scoping = resolve(alloc, program, false)?;
     lines_from(alloc, &scoping, nodes.as_slice())
 }
 

@@ -10,10 +10,12 @@ use oxt_fields::rules::FieldRules;
 use oxt_fields::written::never_written_nodes;
 use oxt_inline::dropped::dropped_blocks;
 use oxt_inline::inlined::inlined_expressions;
+use oxt_metadata::Metadata;
+use oxt_metadata::symbols::NamedSymbols;
 use oxt_modules::kept::kept_nodes;
 use oxt_names::constant::ConstantValue;
 use oxt_options::lists::PlanLists;
-use oxt_options::options::{TransformOptions, TypeScriptOptions};
+use oxt_options::options::{DecoratorOptions, TransformOptions, TypeScriptOptions};
 use oxt_options::plan::Plan;
 use oxt_resolve::resolve::resolve;
 use oxt_scoping::scoping::Scoping;
@@ -32,7 +34,7 @@ pub fn told_nodes(
     program: &Node,
     options: &TransformOptions,
 ) -> Result<ToldNodes, OutOfMemory> {
-    let scoping = resolve(alloc, program)?;
+    let scoping = resolve(alloc, program, options.decorator.legacy)?;
     let plan = plan_of(alloc, program, &scoping, options)?;
     told_of_source(alloc, program, &scoping, &plan, options)
 }
@@ -49,14 +51,19 @@ pub fn plan_of(
     scoping: &Scoping,
     options: &TransformOptions,
 ) -> Result<Plan, OutOfMemory> {
-    let legacy = options.decorator.legacy;
-    let mut plan = listed_plan(alloc, program, scoping, &options.typescript, legacy)?;
+    let mut plan = listed_plan(
+        alloc,
+        program,
+        scoping,
+        &options.typescript,
+        options.decorator,
+    )?;
     let aliases = alias_uses(alloc, program, scoping, FieldRules::new(options, &plan))?;
     plan.set_aliases(alloc, aliases)?;
     Ok(plan)
 }
 
-/// The plan without the names that are read as aliases, where decorators are lowered or not.
+/// The plan without the names that are read as aliases, where decorators are lowered so.
 ///
 /// # Errors
 ///
@@ -66,16 +73,52 @@ pub fn listed_plan(
     program: &Node,
     scoping: &Scoping,
     typescript: &TypeScriptOptions,
-    legacy: bool,
+    decorator: DecoratorOptions,
 ) -> Result<Plan, OutOfMemory> {
-    let kept = kept_nodes(alloc, program, scoping, typescript, legacy)?;
+    let metadata = Metadata::of(alloc, program, scoping, decorator)?;
     let mut lists = PlanLists::empty(alloc);
+    note_types(alloc, &metadata, &mut lists)?;
+    let legacy = decorator.legacy;
+    note_kept(
+        alloc,
+        program,
+        scoping,
+        metadata.named(),
+        typescript,
+        legacy,
+        &mut lists,
+    )?;
     lists.first = first_blocks(alloc, program, scoping)?;
+    Plan::new(alloc, lists)
+}
+
+/// Notes what metadata writes.
+fn note_types(
+    alloc: Global,
+    metadata: &Metadata,
+    lists: &mut PlanLists,
+) -> Result<(), OutOfMemory> {
+    lists.metadata = metadata.types(alloc)?;
+    lists.written = metadata.names(alloc)?;
+    Ok(())
+}
+
+/// Notes what is kept of modules, and what is known of the names of the program with it.
+fn note_kept(
+    alloc: Global,
+    program: &Node,
+    scoping: &Scoping,
+    named: &NamedSymbols,
+    typescript: &TypeScriptOptions,
+    legacy: bool,
+    lists: &mut PlanLists,
+) -> Result<(), OutOfMemory> {
+    let kept = kept_nodes(alloc, program, scoping, named, typescript, legacy)?;
     lists.inlined = inlined_expressions(alloc, program, scoping, &kept, typescript)?;
-    lists.dropped = dropped_blocks(alloc, program, scoping, &kept, typescript, legacy)?;
+    lists.dropped = dropped_blocks(alloc, program, scoping, &kept, named, typescript, legacy)?;
     lists.never_written = never_written_nodes(alloc, program, scoping)?;
     lists.kept = kept.into_nodes();
-    Plan::new(alloc, lists)
+    Ok(())
 }
 
 /// A line for each node of which something is told: its number and `block`, `member`, `bare`, `inlined`, `gone`,

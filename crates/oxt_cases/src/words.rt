@@ -69,7 +69,7 @@ pub fn facts_with(alloc: Global, source: &Node, told: ToldNodes) -> Result<Facts
 
 /// The groups of the names of the tree.
 fn groups_in(alloc: Global, program: &Node) -> Result<NameGroups, OutOfMemory> {
-    let scoping = resolve(alloc, program)?;
+    let scoping = resolve(alloc, program, false)?;
     groups_of(alloc, program, &scoping)
 }
 

@@ -6,7 +6,8 @@ use Rattle.oxt_grammar.specs.Field.{Field, is_typescript_field}
 use Rattle.oxt_grammar.specs.Kinds.{is_typescript_kind}
 use Rattle.oxt_grammar.specs.Rows.{row_of}
 use Rattle.oxt_grammar.specs.declared.holds.Holds.{Holds}
-use Rattle.oxt_check.specs.Beside.{all_plain_beside, below_first, beside_in_each, beside_in_fields, beside_in_first, below_plain_beside, first_plain_beside, first_typescript_beside, held_by, in_field, in_row, is_kept, is_plain_beside}
+use Rattle.oxt_check.specs.Beside.{all_plain_beside, below_first, beside_in_each, beside_in_fields, beside_in_first, below_plain_beside, first_plain_beside, first_typescript_beside, in_field, in_row, is_kept, is_plain_beside}
+use Rattle.oxt_check.specs.Targets.{held_by}
 use Rattle.oxt_tree.specs.Doc.{Doc, nil, flag, number, text, list, node, Docs, no_docs, doc}
 use Rattle.oxt_tree.specs.Fields.{is_default}
 use Rattle.oxt_valid.proofs.Decisions.{none_below, none_of_both}

@@ -4,9 +4,9 @@ use Rattle.oxt_grammar.specs.Field.{Field}
 use Rattle.oxt_grammar.specs.Kinds.{is_typescript_kind}
 use Rattle.oxt_grammar.specs.Rows.{row_of}
 use Rattle.oxt_grammar.specs.declared.holds.Holds.{Holds}
-use Rattle.oxt_check.specs.Beside.{all_plain_beside, below_plain_beside, first_plain_beside, held_by, is_plain_beside}
+use Rattle.oxt_check.specs.Beside.{all_plain_beside, below_plain_beside, first_plain_beside, is_plain_beside}
 use Rattle.oxt_check.specs.Laws.{PlainBesideNothing}
-use Rattle.oxt_check.specs.Targets.{is_wrapped_target}
+use Rattle.oxt_check.specs.Targets.{held_by, is_wrapped_target}
 use Rattle.oxt_tree.specs.Doc.{Doc, nil, flag, number, text, list, node, Docs, no_docs, doc}
 use Rattle.oxt_valid.specs.Plain.{all_plain, fields_plain, is_plain}
 use Rattle.std.specs.Prelude.{None}

@@ -6,8 +6,7 @@ use Rattle.oxt_grammar.specs.Field.{Field, is_typescript_field}
 use Rattle.oxt_grammar.specs.Kinds.{is_typescript_kind}
 use Rattle.oxt_grammar.specs.Rows.{row_of}
 use Rattle.oxt_grammar.specs.declared.holds.Holds.{Holds}
-use Rattle.oxt_grammar.specs.declared.holds.Holds.TheVariants as holds
-use Rattle.oxt_check.specs.Targets.{is_wrapped_target}
+use Rattle.oxt_check.specs.Targets.{held_by, is_wrapped_target}
 use Rattle.oxt_tree.specs.Doc.{Doc, nil, flag, number, text, list, node, Docs, no_docs, doc}
 use Rattle.oxt_tree.specs.Fields.{is_default}
 use Rattle.oxt_valid.specs.Misfit.{below, or_else}
@@ -16,11 +15,6 @@ use Rattle.oxt_valid.specs.Plain.{fields_plain}
 -- a wrapper that cannot be opened where it stands, whose number passes the test: it is no fault itself
 abbrev pub is_kept : Holds → Doc → ℕ → (ℕ → Bool) → Bool
 is_kept h d i ks = is_wrapped_target h d && ks i
-
--- what a field with that row holds; nothing is assigned to what has no row
-abbrev pub held_by : Option Field → Holds
-held_by None = holds.Flag
-held_by (Some r) = r.holds
 
 -- No node of the document, which stands where a field holds `h`, has a kind or a field of TypeScript, but for wrappers
 -- that are kept where something is assigned; of these only the expression is looked at, which is the first field.

@@ -3,7 +3,8 @@ use Rattle.std.specs.Prelude.{ℕ, Bool, nat_lt, if◌then◌else◌, Option, No
 use Rattle.oxt_check.specs.declared.capture.NameAt.{NameAt}
 use Rattle.oxt_decorator_checks.specs.Moved.{decorator_capture}
 use Rattle.oxt_enum_checks.specs.Shadows.{Shadow, shadowed}
-use Rattle.oxt_faults.specs.Captured.{Capture, captured}
+use Rattle.oxt_faults.specs.AllCaptured.{all_captured}
+use Rattle.oxt_faults.specs.Captured.{Capture}
 use Rattle.oxt_faults.specs.Free.{free}
 use Rattle.oxt_faults.specs.Initializers.{initializer_word}
 use Rattle.oxt_faults.specs.Level.{LevelWordAt}
@@ -43,10 +44,10 @@ abbrev pub captured_moved : Scoped → Rules → Doc → Option Capture
 captured_moved s r d = former (moved_capture s r d) (decorator_capture r.legacy d)
 
 -- of names whose declarations are erased, of free names that are made and of names of enums, where that is kept
-abbrev pub captured_spelling : Bool → Scoped → (ℕ → Bool) → Doc → Option Capture
-captured_spelling legacy s ks d =
-    former (captured legacy s (is_in (left_out ks d)) d)
-    (former (free legacy s ks d) (option_map shadow_capture (shadowed legacy s d)))
+abbrev pub captured_spelling : Rules → Scoped → (ℕ → Bool) → Doc → Option Capture
+captured_spelling r s ks d =
+    former (all_captured r s (is_in (left_out ks d)) d)
+    (former (free r s ks d) (option_map shadow_capture (shadowed r.legacy s d)))
 
 -- The one at the node of the least number of a whole tree, whose fields are lowered by these rules and in which that is
 -- kept: of words in initializers that stay as written, of words in namespaces, of names in classes whose fields move and in
@@ -54,4 +55,4 @@ captured_spelling legacy s ks d =
 -- of these.
 abbrev pub first_capture : Scoped → Rules → (ℕ → Bool) → Doc → Option Capture
 first_capture s r ks d =
-    former (captured_word r.legacy s d) (former (captured_moved s r d) (captured_spelling r.legacy s ks d))
+    former (captured_word r.legacy s d) (former (captured_moved s r d) (captured_spelling r s ks d))

@@ -1,7 +1,8 @@
 -- What the writer of a source is told.
 use Rattle.std.specs.Prelude.{ℕ, List, [], ◌∷◌, ◌++◌, Bool, true, false, not, ◌&&◌, ◌||◌, if◌then◌else◌, filter, None, Some, codes}
+use Rattle.std.specs.List.{slice_get}
 use Rattle.oxt_check.specs.Seats.{is_item, seat_inside}
-use Rattle.oxt_check.specs.Targets.{is_wrapped_target}
+use Rattle.oxt_check.specs.Targets.{held_by, is_wrapped_target}
 use Rattle.oxt_check.specs.declared.seat.Seat.{Seat}
 use Rattle.oxt_check.specs.declared.seat.Seat.TheVariants as seat
 use Rattle.oxt_grammar.specs.Field.{Field}
@@ -22,7 +23,7 @@ use Rattle.oxt_tree.specs.Syntax.{is_definition_file}
 use Rattle.oxt_tree.specs.declared.diagnostic.DiagnosticKind.{DiagnosticKind}
 use Rattle.oxt_tree.specs.declared.diagnostic.DiagnosticKind.TheVariants as diagnostic
 use Rattle.oxt_tree.specs.declared.diagnostic.OxcDiagnostic.{OxcDiagnostic}
-use Rattle.oxt_unbuilt.specs.Dropped.{is_dropped_by}
+use Rattle.oxt_unbuilt.specs.Dropped.{is_dropped_by, keeps_decorators}
 
 -- a diagnostic of that kind from there to there
 abbrev pub found_at : DiagnosticKind → ℕ → ℕ → OxcDiagnostic
@@ -96,7 +97,8 @@ told_of_code ks o h k i b e ds =
 -- ---- all that is told
 
 -- What is told of a document in which that is kept, in that seat and where a field holds `h`: of a node before those in
--- it. Of what is erased as a whole only the node itself is looked at, and only for the sake of namespaces.
+-- it. Of what is erased as a whole only the node itself is looked at, and only for the sake of namespaces; and what is told
+-- of the decorators, the first field, of a field that is only declared, where these have their older meaning.
 abbrev mutual
   pub told_in : Doc → (ℕ → Bool) → TransformData → Seat → Holds → List OxcDiagnostic
   told_in nil ks o s h = []
@@ -106,7 +108,8 @@ abbrev mutual
   told_in (list ds) ks o s h = told_among ds ks o s h
   told_in (node k i b e ds) ks o s h =
       told_of_namespace o s k b e ds
-      ++ (if is_dropped_by k ds then []
+      ++ (if is_dropped_by k ds then
+      (if keeps_decorators o.decorator.legacy k ds then told_first ds ks o (seat_inside s k ds) (row_of k) else [])
       else told_of_code ks o h k i b e ds ++ told_below ds ks o (seat_inside s k ds) (row_of k))
 
   -- of the elements of a list
@@ -119,6 +122,11 @@ abbrev mutual
   told_below no_docs ks o s rs = []
   told_below (doc d ds) ks o s [] = []
   told_below (doc d ds) ks o s (r ∷ rs) = told_in d ks o s r.holds ++ told_below ds ks o s rs
+
+  -- of the first of them alone
+  pub told_first : Docs → (ℕ → Bool) → TransformData → Seat → List Field → List OxcDiagnostic
+  told_first no_docs ks o s rs = []
+  told_first (doc d ds) ks o s rs = told_in d ks o s (held_by (slice_get rs 0))
 
 -- diagnostics of the kind are told for the sake of namespaces
 abbrev pub is_of_namespaces : DiagnosticKind → Bool

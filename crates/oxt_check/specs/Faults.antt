@@ -16,10 +16,13 @@ use Rattle.oxt_fields.specs.Rules.{Rules, rules_of}
 use Rattle.oxt_fields.specs.Written.{never_written}
 use Rattle.oxt_inline.specs.DroppedEnums.{dropped}
 use Rattle.oxt_inline.specs.Inlined.{inlined}
+use Rattle.oxt_metadata.specs.Symbols.{types_in, written_in}
+use Rattle.oxt_metadata.specs.Whole.{Written, metadata_of}
 use Rattle.oxt_modules.specs.Kept.{kept}
 use Rattle.oxt_options.specs.Options.{TransformData}
 use Rattle.oxt_tree.specs.Place.{place_of}
 use Rattle.oxt_options.specs.Facts.{Facts, is_in, last_alias, last_constant}
+use Rattle.oxt_options.specs.Metadata.{last_type}
 use Rattle.oxt_scoping.specs.Scoped.{Scoped}
 use Rattle.oxt_tree.specs.Doc.{Doc}
 use Rattle.oxt_tree.specs.Syntax.{is_definition_file}
@@ -52,33 +55,41 @@ captured_refusal d c = captured_name c.name (place_text d c.node)
 
 -- ---- what is known of it
 
--- What is known of a tree in which that is kept: besides it the blocks that come first in their enums and namespaces, the
--- blocks that are dropped, the expressions that are inlined with their constants, and the names that nothing writes to.
-abbrev pub listed_by : List ℕ → Scoped → Doc → TransformData → Facts
-listed_by ks s d o =
+-- What is known of a tree in which metadata writes that and that is kept: besides it the blocks that come first in their enums
+-- and namespaces, the blocks that are dropped, the expressions that are inlined with their constants, and the names that nothing
+-- writes to.
+abbrev pub listed_by : Written → List ℕ → Scoped → Doc → TransformData → Facts
+listed_by m ks s d o =
     record {
       kept = ks;
       first = first_blocks s d;
-      dropped = dropped s (is_in ks) d o.typescript o.decorator.legacy;
+      dropped = dropped s (is_in ks) (is_in m.named) d o.typescript o.decorator.legacy;
       inlined = inlined s (is_in ks) d o.typescript;
       never_written = never_written s d;
       aliases = [];
+      metadata = types_in m.annotations;
+      written = written_in m.annotations;
     }
 
 -- the rules by which the fields of a tree are lowered of which that is known
 abbrev pub rules_by : Facts → TransformData → Rules
-rules_by f o = rules_of o (is_in f.never_written) (last_constant f.inlined) (last_alias f.aliases)
+rules_by f o =
+    rules_of o (is_in f.never_written) (last_constant f.inlined) (last_alias f.aliases) (last_type f.metadata) (last_alias f.written)
 
 -- that, and which names are read as the aliases of decorated classes
 abbrev pub with_aliases : Scoped → Doc → TransformData → Facts → Facts
 with_aliases s d o f = record f { aliases = alias_uses s (rules_by f o) d }
 
-abbrev pub facts_by : List ℕ → Scoped → Doc → TransformData → Facts
-facts_by ks s d o = with_aliases s d o (listed_by ks s d o)
+abbrev pub facts_by : Written → List ℕ → Scoped → Doc → TransformData → Facts
+facts_by m ks s d o = with_aliases s d o (listed_by m ks s d o)
 
--- the same of the source tree, in which what is kept follows from its names
+-- the same, where what is kept follows from the names of the tree, and from those that metadata writes
+abbrev pub facts_with : Written → Scoped → Doc → TransformData → Facts
+facts_with m s d o = facts_by m (kept s (is_in m.named) d o.typescript o.decorator.legacy) s d o
+
+-- the same of the source tree
 abbrev pub facts_of : Scoped → Doc → TransformData → Facts
-facts_of s d o = facts_by (kept s d o.typescript o.decorator.legacy) s d o
+facts_of s d o = facts_with (metadata_of s o.decorator d) s d o
 
 -- ---- its first fault
 

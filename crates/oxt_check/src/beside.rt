@@ -3,13 +3,13 @@ ghost use Rattle.std.specs.Prelude.{◌≡◌, IfOk, Some, map, option_map, slic
 ghost use Rattle.oxt_grammar.specs.Field.{row_view};
 ghost use Rattle.oxt_grammar.specs.declared.category.Category.TheVariants as category;
 ghost use Rattle.oxt_grammar.specs.declared.holds.Holds.TheVariants as holds;
-ghost use Rattle.oxt_check.specs.Beside.{below_first, beside_in_each, beside_in_fields, beside_in_first, first_typescript_beside, held_by, in_row, is_kept, is_plain_beside};
-ghost use Rattle.oxt_check.specs.Targets.{is_listed};
+ghost use Rattle.oxt_check.specs.Beside.{below_first, beside_in_each, beside_in_fields, beside_in_first, first_typescript_beside, in_row, is_kept, is_plain_beside};
+ghost use Rattle.oxt_check.specs.Targets.{held_by, is_listed};
 ghost use Rattle.oxt_tree.specs.Names.{name_bytes};
 ghost use Rattle.oxt_tree.specs.View.{docs_in, node_doc, part_doc};
 
 use crate::targets::WrappedTargets;
-use crate::wrapped::is_wrapped_target;
+use crate::wrapped::{held_by, is_wrapped_target};
 use oxt_grammar::category::Category;
 use oxt_grammar::holds::{Holds, Row};
 use oxt_tree::ids::OutOfMemory;
@@ -190,16 +190,6 @@ fn place_below_first(
     match rows.first() {
         Some(row) => place_below(alloc, row.name(), inside),
         None => Ok(inside.map(|_| String::new(alloc))),
-    }
-}
-
-/// What a field with that row holds; what has no row stands where nothing is assigned.
-fn held_by(row: Option<&Row>) -> Holds
-    ensures { result ≡ held_by (option_map (λ row. row_view row.now) row.entry) }
-{
-    match row {
-        Some(row) => row.holds,
-        None => Holds::Flag,
     }
 }
 

@@ -56,7 +56,7 @@ pub fn first_capture<'a>(
 {
     let word = captured_word(alloc, program, scoping, rules.legacy)?;
     let moved = captured_moved(alloc, program, scoping, rules)?;
-    let spelling = captured_spelling(alloc, program, scoping, rules.legacy, kept)?;
+    let spelling = captured_spelling(alloc, program, scoping, rules, kept)?;
     Ok(former(word, former(moved, spelling)))
 }
 
@@ -95,16 +95,16 @@ fn captured_spelling<'a>(
     alloc: Global,
     program: &'a Node,
     scoping: &'a Scoping,
-    legacy: bool,
+    rules: FieldRules,
     kept: &NodeList,
 ) -> Result<Option<NameAt<'a>>, OutOfMemory>
     ensures { IfOk result (λ found. option_map name_view found
-        ≡ captured_spelling legacy scoping.now (is_in kept.now) (node_doc program.now)) }
+        ≡ captured_spelling (rules_view rules.entry) scoping.now (is_in kept.now) (node_doc program.now)) }
 {
     let left_out = left_out_names(alloc, program, kept)?;
-    let erased = of_name(first_captured(alloc, legacy, program, scoping, &left_out)?);
-    let made = of_free(first_free(legacy, program, scoping, kept));
-    let shadowed = of_shadow(first_shadowed(alloc, program, scoping, legacy)?);
+    let erased = of_name(first_captured(alloc, rules, program, scoping, &left_out)?);
+    let made = of_free(first_free(rules, program, scoping, kept));
+    let shadowed = of_shadow(first_shadowed(alloc, program, scoping, rules.legacy)?);
     Ok(former(erased, former(made, shadowed)))
 }
 

@@ -1,12 +1,12 @@
 //! The check of a program, before any pass changes it.
 ghost use Rattle.std.specs.Prelude.{◌≡◌, ℕ, None, Some, OnOk, IfOk, IfErr};
 ghost use Rattle.oxt_check.specs.Captures.{name_view};
-ghost use Rattle.oxt_check.specs.Faults.{IsFaultOf, IsThe, captured_refusal, code_fault, facts_by, facts_of, listed_by, fault_by, first_fault, misplaced_refusal, place_fault, place_text, refusal_in};
+ghost use Rattle.oxt_check.specs.Faults.{IsFaultOf, IsThe, captured_refusal, code_fault, facts_by, facts_of, facts_with, listed_by, fault_by, first_fault, misplaced_refusal, place_fault, place_text, refusal_in};
 ghost use Rattle.oxt_faults.specs.Misplaced.{misplaced_view};
 ghost use Rattle.oxt_fields.specs.Aliases.{alias_uses};
-ghost use Rattle.oxt_fields.specs.Rules.{rules_of, rules_view};
+ghost use Rattle.oxt_fields.specs.Rules.{rules_in, rules_view};
 ghost use Rattle.oxt_options.specs.Options.{transform_view};
-ghost use Rattle.oxt_options.specs.Facts.{Answers, alias_at, constant_at, is_in, last_alias};
+ghost use Rattle.oxt_options.specs.Facts.{Answers, alias_at, is_in, last_alias};
 ghost use Rattle.oxt_options.specs.Lists.{numbers_in};
 ghost use Rattle.oxt_tree.specs.Names.{name_bytes};
 ghost use Rattle.oxt_tree.specs.View.{node_doc};
@@ -22,6 +22,7 @@ use oxt_fields::rules::FieldRules;
 use oxt_fields::written::never_written_nodes;
 use oxt_inline::dropped::dropped_blocks;
 use oxt_inline::inlined::inlined_expressions;
+use oxt_metadata::Metadata;
 use oxt_modules::kept::kept_nodes;
 use oxt_modules::nodes::NodeList;
 use oxt_options::TransformOptions;
@@ -37,7 +38,8 @@ use std::alloc::Global;
 /// What the passes ask of the nodes of a program, whose table of scopes and symbols is `scoping`.
 ///
 /// They ask what of imports and exports is kept, which blocks of enums and namespaces come first, which blocks of enums
-/// are dropped, which expressions are inlined, and to which names nothing writes.
+/// are dropped, which expressions are inlined, to which names nothing writes, which are read as aliases of decorated classes,
+/// and what metadata writes.
 ///
 /// # Errors
 ///
@@ -57,34 +59,55 @@ pub fn check(
     ensures refused { IfErr result
         (λ f. IsFaultOf (refusal_in f) scoping.now (node_doc program.now.root) (transform_view options.now)) }
 {
+    let metadata = Metadata::of(alloc, &program.root, scoping, options.decorator)?;
+    check_written(alloc, &program.root, scoping, &metadata, options)
+}
+
+/// Checks a program in which metadata writes that.
+fn check_written(
+    alloc: Global,
+    program: &Node,
+    scoping: &Scoping,
+    metadata: &Metadata,
+    options: &TransformOptions,
+) -> Result<Plan, Fault>
+    ensures plan { IfOk result
+        (λ plan. Answers plan (facts_with metadata.now scoping.now (node_doc program.now) (transform_view options.now))) }
+    ensures accepted { OnOk result
+        (fault_by (facts_with metadata.now scoping.now (node_doc program.now) (transform_view options.now)) scoping.now (node_doc program.now) (transform_view options.now) ≡ None) }
+    ensures refused { IfErr result (λ f. IsThe (refusal_in f)
+        (fault_by (facts_with metadata.now scoping.now (node_doc program.now) (transform_view options.now)) scoping.now (node_doc program.now) (transform_view options.now))) }
+{
     let kept = kept_nodes(
         alloc,
-        &program.root,
+        program,
         scoping,
+        metadata.named(),
         &options.typescript,
         options.decorator.legacy,
     )?;
-    check_kept(alloc, &program.root, scoping, kept, options)
+    check_kept(alloc, program, scoping, metadata, kept, options)
 }
 
-/// Checks a program in which that is kept.
+/// Checks a program in which metadata writes that, and that is kept.
 fn check_kept(
     alloc: Global,
     program: &Node,
     scoping: &Scoping,
+    metadata: &Metadata,
     kept: NodeList,
     options: &TransformOptions,
 ) -> Result<Plan, Fault>
     ensures plan { IfOk result
-        (λ plan. Answers plan (facts_by kept scoping.now (node_doc program.now) (transform_view options.now))) }
+        (λ plan. Answers plan (facts_by metadata.now kept scoping.now (node_doc program.now) (transform_view options.now))) }
     ensures accepted { OnOk result
-        (fault_by (facts_by kept scoping.now (node_doc program.now) (transform_view options.now)) scoping.now (node_doc program.now) (transform_view options.now) ≡ None) }
+        (fault_by (facts_by metadata.now kept scoping.now (node_doc program.now) (transform_view options.now)) scoping.now (node_doc program.now) (transform_view options.now) ≡ None) }
     ensures refused { IfErr result (λ f. IsThe (refusal_in f)
-        (fault_by (facts_by kept scoping.now (node_doc program.now) (transform_view options.now)) scoping.now (node_doc program.now) (transform_view options.now))) }
+        (fault_by (facts_by metadata.now kept scoping.now (node_doc program.now) (transform_view options.now)) scoping.now (node_doc program.now) (transform_view options.now))) }
 {
     let nodes = kept.into_nodes();
     let list = list_of(alloc, nodes.as_slice())?;
-    let listed = plan_by(alloc, program, scoping, &list, nodes, options)?;
+    let listed = plan_by(alloc, program, scoping, metadata, &list, nodes, options)?;
     let plan = with_aliases(alloc, program, scoping, listed, options)?;
     check_planned(alloc, program, scoping, &list, plan, options)
 }
@@ -100,9 +123,9 @@ fn check_planned(
 ) -> Result<Plan, Fault>
     ensures plan { IfOk result (λ p. p ≡ plan) }
     ensures accepted { OnOk result
-        (code_fault scoping.now (rules_of (transform_view options.now) (is_in plan.never_written) (constant_at plan.inlined) (alias_at plan.aliases)) (is_in kept.now) (node_doc program.now) ≡ None) }
+        (code_fault scoping.now (rules_in (transform_view options.now) plan) (is_in kept.now) (node_doc program.now) ≡ None) }
     ensures refused { IfErr result (λ f. IsThe (refusal_in f)
-        (code_fault scoping.now (rules_of (transform_view options.now) (is_in plan.never_written) (constant_at plan.inlined) (alias_at plan.aliases)) (is_in kept.now) (node_doc program.now))) }
+        (code_fault scoping.now (rules_in (transform_view options.now) plan) (is_in kept.now) (node_doc program.now))) }
 {
     let rules = FieldRules::new(options, &plan);
     match check_code(alloc, program, scoping, rules, kept) {
@@ -213,8 +236,7 @@ fn with_aliases(
 ) -> Result<Plan, OutOfMemory>
     ensures others { IfOk result (λ p. p ≡ record plan { aliases = p.aliases }) }
     ensures aliases { IfOk result (λ p. (n : ℕ) → alias_at p.aliases n ≡ last_alias (alias_uses scoping.now
-        (rules_of (transform_view options.now) (is_in plan.never_written) (constant_at plan.inlined) (alias_at plan.aliases))
-        (node_doc program.now)) n) }
+        (rules_in (transform_view options.now) plan) (node_doc program.now)) n) }
 {
     let rules = FieldRules::new(options, &plan);
     let aliases = alias_uses(alloc, program, scoping, rules)?;
@@ -222,18 +244,20 @@ fn with_aliases(
     Ok(plan)
 }
 
-/// The plan for the program, in which these nodes are kept, the same as `kept` lists; of aliases it knows nothing yet.
+/// The plan for the program, in which metadata writes that and these nodes are kept, the same as `kept` lists; of aliases it
+/// knows nothing yet.
 fn plan_by(
     alloc: Global,
     program: &Node,
     scoping: &Scoping,
+    metadata: &Metadata,
     kept: &NodeList,
     nodes: Vec<NodeId>,
     options: &TransformOptions,
 ) -> Result<Plan, OutOfMemory>
     requires { numbers_in nodes.items ≡ kept.now }
     ensures { IfOk result
-        (λ plan. Answers plan (listed_by kept.now scoping.now (node_doc program.now) (transform_view options.now))) }
+        (λ plan. Answers plan (listed_by metadata.now kept.now scoping.now (node_doc program.now) (transform_view options.now))) }
 {
     let typescript = &options.typescript;
     let mut lists = PlanLists::empty(alloc);
@@ -244,9 +268,12 @@ fn plan_by(
         program,
         scoping,
         kept,
+        metadata.named(),
         typescript,
         options.decorator.legacy,
     )?;
+    lists.metadata = metadata.types(alloc)?;
+    lists.written = metadata.names(alloc)?;
     lists.never_written = never_written_nodes(alloc, program, scoping)?;
     lists.kept = nodes;
     Plan::new(alloc, lists)

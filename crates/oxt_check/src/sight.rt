@@ -6,6 +6,7 @@ ghost use Rattle.oxt_grammar.specs.declared.kind.Kind.TheVariants as kind;
 ghost use Rattle.oxt_options.specs.Facts.{is_in};
 ghost use Rattle.oxt_options.specs.Options.{transform_view};
 ghost use Rattle.oxt_tree.specs.View.{docs_in};
+ghost use Rattle.oxt_unbuilt.specs.Dropped.{keeps_decorators};
 
 use crate::seat::Seat;
 use oxt_grammar::field::Field;
@@ -14,6 +15,7 @@ use oxt_modules::alias::is_required;
 use oxt_options::plan::Plan;
 use oxt_options::{Module, TransformOptions};
 use oxt_tree::tree::Node;
+use oxt_unbuilt::dropped::keeps_decorators;
 
 /// What decides of which nodes diagnostics tell.
 #[derive(Clone, Copy)]
@@ -47,6 +49,14 @@ impl<'a> Sight<'a> {
             && same_kind node.now.kind kind.TSExportAssignment) }
     {
         is_esm(self.options.module) && node.kind.is(Kind::TSExportAssignment)
+    }
+
+    /// Whether the node is dropped, but its decorators are called all the same.
+    pub fn keeps_decorators(&self, node: &Node) -> bool
+        ensures { result ≡ keeps_decorators (transform_view self.now.options.now).decorator.legacy node.now.kind
+            (docs_in node.now.parts.items) }
+    {
+        keeps_decorators(self.options.decorator.legacy, node)
     }
 }
 

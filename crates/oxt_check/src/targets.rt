@@ -32,15 +32,15 @@ impl Model for WrappedTargets {
 }
 
 impl WrappedTargets {
-    /// Those of the program.
+    /// Those of the program, where `legacy` says that decorators have their older meaning.
     ///
     /// # Errors
     ///
     /// `OutOfMemory` for want of memory alone.
-    pub fn of(alloc: Global, program: &Node) -> Result<WrappedTargets, OutOfMemory>
-        ensures { IfOk result (λ wrapped. wrapped ≡ targets (node_doc program.now)) }
+    pub fn of(alloc: Global, program: &Node, legacy: bool) -> Result<WrappedTargets, OutOfMemory>
+        ensures { IfOk result (λ wrapped. wrapped ≡ targets legacy (node_doc program.now)) }
     {
-        let nodes = wrapped_targets(alloc, program)?;
+        let nodes = wrapped_targets(alloc, program, legacy)?;
         let set = set_of(alloc, nodes.as_slice())?;
         Ok(WrappedTargets { set, nodes })
     }
@@ -61,17 +61,22 @@ impl WrappedTargets {
 }
 
 /// The wrappers of the program, outside erased code, that stay where something is assigned, where one comes before
-/// those in it. A file of definitions has none.
+/// those in it. A file of definitions has none. Under `legacy` the decorators of a field that is only declared are no erased
+/// code.
 ///
 /// # Errors
 ///
 /// `OutOfMemory` for want of memory alone.
-pub fn wrapped_targets(alloc: Global, program: &Node) -> Result<Vec<NodeId>, OutOfMemory>
-    ensures { IfOk result (λ nodes. numbers_in nodes.items ≡ targets (node_doc program.now)) }
+pub fn wrapped_targets(
+    alloc: Global,
+    program: &Node,
+    legacy: bool,
+) -> Result<Vec<NodeId>, OutOfMemory>
+    ensures { IfOk result (λ nodes. numbers_in nodes.items ≡ targets legacy (node_doc program.now)) }
 {
     let mut nodes = Vec::new(alloc);
     if !program.is_definition_file() {
-        push_from_node(&mut nodes, program, Holds::Node(Category::Program))?;
+        push_from_node(&mut nodes, program, Holds::Node(Category::Program), legacy)?;
     }
     Ok(nodes)
 }

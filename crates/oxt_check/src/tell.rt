@@ -1,7 +1,7 @@
 //! Collects what the writer of a program is told, in the order of the text.
-ghost use Rattle.std.specs.Prelude.{◌≡◌, ◌++◌, map, OnOk};
+ghost use Rattle.std.specs.Prelude.{◌≡◌, ◌++◌, [], if◌then◌else◌, map, OnOk};
 ghost use Rattle.oxt_grammar.specs.Field.{row_view};
-ghost use Rattle.oxt_check.specs.Diagnostics.{told_among, told_below, told_if, told_in, told_of_code, told_of_module, told_of_namespace, wrapper_stays};
+ghost use Rattle.oxt_check.specs.Diagnostics.{told_among, told_below, told_first, told_if, told_in, told_of_code, told_of_module, told_of_namespace, wrapper_stays};
 ghost use Rattle.oxt_options.specs.Facts.{is_in};
 ghost use Rattle.oxt_options.specs.Options.{transform_view};
 ghost use Rattle.oxt_tree.specs.View.{docs_in, node_doc, part_doc};
@@ -12,7 +12,7 @@ use crate::named::{
 };
 use crate::seat::Seat;
 use crate::sight::{Sight, is_changing, is_nested_module};
-use crate::wrapped::is_wrapped_target;
+use crate::wrapped::{held_by, is_wrapped_target};
 use oxt_grammar::holds::{Holds, Row};
 use oxt_tree::diagnostic::{DiagnosticKind, OxcDiagnostic};
 use oxt_tree::ids::OutOfMemory;
@@ -32,17 +32,14 @@ pub fn tell_of_node(
         ++ told_in (node_doc node.now) (is_in sight.now.plan.now.kept) (transform_view sight.now.options.now) seat holds) }
 {
     tell_of_namespace(told, sight, node, seat)?;
+    let rows = node.kind.rows();
+    let inside = seat.inside(node);
     if is_dropped(node) {
-        return Ok(());
+        let is_kept = sight.keeps_decorators(node);
+        return tell_of_first(told, sight, &node.parts, inside, rows, is_kept);
     }
     tell_of_code(told, sight, node, holds)?;
-    tell_of_fields(
-        told,
-        sight,
-        &node.parts,
-        seat.inside(node),
-        node.kind.rows(),
-    )
+    tell_of_fields(told, sight, &node.parts, inside, rows)
 }
 
 /// Appends what is told of the part.
@@ -104,6 +101,26 @@ fn tell_of_fields(
         }
     }
     Ok(())
+}
+
+/// Appends what is told of what the first field of a node with these rows holds, if that is kept.
+#[cycle(tell)]
+fn tell_of_first(
+    told: &mut Vec<OxcDiagnostic>,
+    sight: &Sight<'_>,
+    parts: &[Part],
+    seat: Seat,
+    rows: &[Row],
+    is_kept: bool,
+) -> Result<(), OutOfMemory>
+    ensures { OnOk result (told.new.items ≡ told.old.items ++ (if is_kept
+        then told_first (docs_in parts.now) (is_in sight.now.plan.now.kept) (transform_view sight.now.options.now) seat
+        (map row_view rows.now) else [])) }
+{
+    match parts.first() {
+        Some(part) if is_kept => tell_of_part(told, sight, part, seat, held_by(rows.get(0))),
+        _ => Ok(()),
+    }
 }
 
 /// Appends what is told of the node itself for the sake of namespaces.

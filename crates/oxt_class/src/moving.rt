@@ -92,6 +92,7 @@ fn fate_by_plan(element: &Node, moving: &Moving, ctx: &TraverseCtx) -> Fate {
         moves: true,
         drops_empty: moving.drops_empty,
         legacy: false,
+        emits_metadata: false,
         plan: &ctx.plan,
     };
     fate_of(rules, moving.hoists_private, element)

@@ -37,7 +37,7 @@ use oxt_ctx::functions::field;
 use oxt_ctx::keys::{copy_key, duplicate_expression, key_needs_temp_var};
 use oxt_ctx::maybe::MaybeBoundIdentifier;
 use oxt_ctx::nodes::{private_member, private_name, this_expression};
-use oxt_ctx::parts::{put_field, take_node};
+use oxt_ctx::parts::{child_mut, put_field, take_node};
 use oxt_decorated::calls::calls_any;
 use oxt_decorated::class::elements_of;
 use oxt_decorated::statics::has_static_accessor;
@@ -324,7 +324,7 @@ fn object_of(
     }
 }
 
-/// Appends the getter, which has the number and the decorators of the accessor.
+/// Appends the getter, which has the number, the decorators and the type of the accessor.
 fn push_getter(
     accessor: &mut Node,
     key: Node,
@@ -343,8 +343,18 @@ fn push_getter(
     getter.id = accessor.id;
     let decorators = take_list(ctx.memory(), accessor, Field::Decorators);
     put_field(&mut getter, Field::Decorators, Part::List(decorators));
+    put_type(&mut getter, accessor);
     elements.push(Part::Node(getter))?;
     Ok(())
+}
+
+/// Makes the type of the accessor, which loses it, that of what the getter returns.
+fn put_type(getter: &mut Node, accessor: &mut Node) {
+    if let Some(annotation) = take_node(accessor, Field::TypeAnnotation) {
+        if let Some(function) = child_mut(getter, Field::Value) {
+            put_field(function, Field::ReturnType, Part::Node(annotation));
+        }
+    }
 }
 
 /// Appends the setter.

@@ -146,7 +146,7 @@ impl VisitMut for ClassReferenceChanger {
 }
 
 /// Whether a name in the body of the class is read as its alias by the plan. It may be gone when the class is left.
-pub fn has_alias(class: &mut Node, plan: &Plan) -> Result<bool, OutOfMemory> {
+pub(crate) fn has_alias(class: &mut Node, plan: &Plan) -> Result<bool, OutOfMemory> {
     let alloc = *class.parts.allocator();
     let number = class.id;
     match child_mut(class, Field::Body) {

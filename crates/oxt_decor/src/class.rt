@@ -29,6 +29,7 @@ ghost use Rattle.oxt_stores.specs.Frame.{frames};
 use crate::alias::ClassReferenceChanger;
 use crate::calls::{decorate_call, push_parameter_decorators, take_decorators};
 use crate::frame::ClassFrame;
+use crate::metadata::push_constructor_metadata;
 use crate::names::{live_symbol, use_of};
 use crate::parts::elements_mut;
 use crate::stand_in::drop_stand_ins;
@@ -66,10 +67,12 @@ pub struct DecoratedClass {
     pub alias: Option<MaybeBoundIdentifier>,
 }
 
-/// Takes the decorators of the class and what was made for its elements.
+/// Takes the decorators of the class and what was made for its elements. These are the types of the parameters of its
+/// constructor, if metadata tells of them.
 pub fn leave_class(
     class: &mut Node,
     frame: ClassFrame,
+    types: Option<Node>,
     ctx: &mut TraverseCtx,
 ) -> Result<LeftClass, OutOfMemory>
     requires { 0 < length (frames ctx.old.declarations) }
@@ -79,7 +82,7 @@ pub fn leave_class(
 {
     drop_stand_ins(class, &frame.stand_ins);
     if frame.is_decorated {
-        leave_decorated(class, frame, ctx)
+        leave_decorated(class, frame, types, ctx)
     } else {
         leave_plain(class, frame, ctx)
     }
@@ -161,6 +164,7 @@ fn place_calls(
 fn leave_decorated(
     class: &mut Node,
     mut frame: ClassFrame,
+    types: Option<Node>,
     ctx: &mut TraverseCtx,
 ) -> Result<LeftClass, OutOfMemory>
     requires { 0 < length (frames ctx.old.declarations) }
@@ -170,7 +174,8 @@ fn leave_decorated(
 {
     let alias = rename_uses(class, &frame, ctx)?;
     let name = frame.name_around(ctx)?;
-    let own = own_call(class, &name, alias.as_ref(), ctx)?;
+    let decorators = own_decorators(class, types, ctx)?;
+    let own = own_call(decorators, &name, alias.as_ref(), ctx)?;
     let number = frame.class;
     let is_kept_inside = frame.has_static_part;
     let mut calls = place_calls(class, frame, ctx)?;
@@ -261,10 +266,25 @@ fn unbound(name: BoundIdentifier) -> MaybeBoundIdentifier {
     }
 }
 
-/// The statement that applies the decorators of the class and of the parameters of its constructor, which it takes:
-/// `name = alias = babelHelpers.decorate([decorators], name);`.
-fn own_call(
+/// The decorators of the class and of the parameters of its constructor, which it loses, with the types of these last.
+fn own_decorators(
     class: &mut Node,
+    types: Option<Node>,
+    ctx: &mut TraverseCtx,
+) -> Result<Vec<Part>, OutOfMemory>
+    ensures around { OnOk result (ctx.new.ancestors ≡ ctx.old.ancestors) }
+    ensures depth { OnOk result
+        (length (frames ctx.new.declarations) ≡ length (frames ctx.old.declarations)) }
+{
+    let mut decorators = take_decorators(ctx.memory(), class)?;
+    push_constructor_decorators(&mut decorators, class, ctx)?;
+    push_constructor_metadata(&mut decorators, types, ctx)?;
+    Ok(decorators)
+}
+
+/// The statement that applies the decorators of the class: `name = alias = babelHelpers.decorate([decorators], name);`.
+fn own_call(
+    decorators: Vec<Part>,
     name: &MaybeBoundIdentifier,
     alias: Option<&MaybeBoundIdentifier>,
     ctx: &mut TraverseCtx,
@@ -274,8 +294,6 @@ fn own_call(
         (length (frames ctx.new.declarations) ≡ length (frames ctx.old.declarations)) }
 {
     let alloc = ctx.memory();
-    let mut decorators = take_decorators(alloc, class)?;
-    push_constructor_decorators(&mut decorators, class, ctx)?;
     let read = use_of(name, ReferenceFlags::Read, ctx)?;
     let call = decorate_call(decorators, vec![in alloc; read]?, ctx)?;
     let value = assigned(alias, call, ctx)?;

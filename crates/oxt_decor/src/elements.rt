@@ -26,6 +26,7 @@ ghost use Rattle.oxt_stores.specs.Frame.{frames};
 use crate::calls::{decorate_call, prototype_of, push_parameter_decorators, take_decorators};
 use crate::frame::ClassFrame;
 use crate::key::key_of_call;
+use crate::metadata::{MethodMetadata, push_field_metadata, push_method_metadata};
 use crate::stand_in::show_key;
 use oxt_ctx::context::TraverseCtx;
 use oxt_ctx::nodes::{null_literal, statement, void_zero};
@@ -35,10 +36,12 @@ use oxt_tree::ids::OutOfMemory;
 use oxt_tree::tree::{Node, Part};
 use std::vec;
 
-/// Takes the decorators of the method and of its parameters into a call, if it has any and is no constructor.
+/// Takes the decorators of the method and of its parameters into a call, with that metadata last, if it has any and is no
+/// constructor.
 pub fn leave_method(
     frame: &mut ClassFrame,
     method: &mut Node,
+    metadata: Option<MethodMetadata>,
     ctx: &mut TraverseCtx,
 ) -> Result<(), OutOfMemory>
     requires { 0 < length (frames ctx.old.declarations) }
@@ -54,14 +57,18 @@ pub fn leave_method(
     if decorators.is_empty() {
         return Ok(());
     }
+    if let Some(metadata) = metadata {
+        push_method_metadata(&mut decorators, metadata, ctx)?;
+    }
     let descriptor = null_literal(ctx.memory(), &mut ctx.ids)?;
     push_call(frame, method, decorators, descriptor, ctx)
 }
 
-/// Takes the decorators of the field into a call, if it has any.
+/// Takes the decorators of the field into a call, with its type last, if it has any.
 pub fn leave_field(
     frame: &mut ClassFrame,
     field: &mut Node,
+    written: Option<Node>,
     ctx: &mut TraverseCtx,
 ) -> Result<(), OutOfMemory>
     requires { 0 < length (frames ctx.old.declarations) }
@@ -70,10 +77,11 @@ pub fn leave_field(
         (length (frames ctx.new.declarations) ≡ length (frames ctx.old.declarations)) }
 {
     show_key(field, &frame.stand_ins);
-    let decorators = take_decorators(ctx.memory(), field)?;
+    let mut decorators = take_decorators(ctx.memory(), field)?;
     if decorators.is_empty() {
         return Ok(());
     }
+    push_field_metadata(&mut decorators, written, ctx)?;
     let descriptor = void_zero(ctx.memory(), &mut ctx.ids)?;
     push_call(frame, field, decorators, descriptor, ctx)
 }

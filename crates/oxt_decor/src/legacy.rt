@@ -7,6 +7,7 @@ use crate::alias::has_alias;
 use crate::class::{DecoratedClass, leave_class};
 use crate::elements::{leave_field, leave_method};
 use crate::frame::ClassFrame;
+use crate::metadata::LegacyDecoratorMetadata;
 use crate::stand_in::put_stand_ins;
 use crate::statement::{holds_class, lower_statement, statement_of};
 use oxt_ctx::context::TraverseCtx;
@@ -22,11 +23,16 @@ use std::mem;
 /// makes of each accessor a private field, a getter and a setter.
 ///
 /// Accessors are lowered as their class is entered, before its fields move. A call is made as its element is left,
-/// when wrappers are erased and constants are in their places.
+/// when wrappers are erased and constants are in their places. Types are read as classes and elements are entered, before their
+/// annotations are erased.
 #[derive(Drop)]
 pub struct LegacyDecorator {
     /// Where memory comes from.
     alloc: Global,
+    /// Whether the types of what is decorated are emitted.
+    emits_metadata: bool,
+    /// These types.
+    metadata: LegacyDecoratorMetadata,
     /// The classes that are being walked, the innermost last.
     frames: Vec<ClassFrame>,
     /// The calls of the class that was left last, until they are put behind its statement.
@@ -37,12 +43,14 @@ pub struct LegacyDecorator {
 
 impl LegacyDecorator {
     /// The pass as it begins: it is in no class.
-    pub fn new(alloc: Global, _options: DecoratorOptions) -> LegacyDecorator
+    pub fn new(alloc: Global, options: DecoratorOptions) -> LegacyDecorator
         ensures frames { result.frames.items ≡ [] }
         ensures calls { result.calls.items ≡ [] }
     {
         LegacyDecorator {
             alloc,
+            emits_metadata: options.emits_metadata(),
+            metadata: LegacyDecoratorMetadata::new(alloc, options),
             frames: Vec::new(alloc),
             calls: Vec::new(alloc),
             decorated: None,
@@ -71,8 +79,9 @@ impl LegacyDecorator {
         ensures depth { OnOk result
             (length (frames ctx.new.declarations) ≡ length (frames ctx.old.declarations)) }
     {
+        let metadata = self.metadata.pop_method_metadata();
         match self.frames.last_mut() {
-            Some(frame) if frame.is_declaration => leave_method(frame, method, ctx),
+            Some(frame) if frame.is_declaration => leave_method(frame, method, metadata, ctx),
             _ => Ok(()),
         }
     }
@@ -84,8 +93,9 @@ impl LegacyDecorator {
         ensures depth { OnOk result
             (length (frames ctx.new.declarations) ≡ length (frames ctx.old.declarations)) }
     {
+        let written = self.metadata.pop_field_metadata();
         match self.frames.last_mut() {
-            Some(frame) if frame.is_declaration => leave_field(frame, field, ctx),
+            Some(frame) if frame.is_declaration => leave_field(frame, field, written, ctx),
             _ => Ok(()),
         }
     }
@@ -97,9 +107,10 @@ impl LegacyDecorator {
         ensures depth { OnOk result
             (length (frames ctx.new.declarations) ≡ length (frames ctx.old.declarations)) }
     {
+        let types = self.metadata.pop_constructor_metadata();
         match self.frames.pop() {
             Some(frame) => {
-                let left = leave_class(class, frame, ctx)?;
+                let left = leave_class(class, frame, types, ctx)?;
                 self.calls = left.calls;
                 self.decorated = left.decorated;
                 Ok(())
@@ -156,6 +167,9 @@ impl Traverse for LegacyDecorator {
         node: &mut Node,
         ctx: &mut TraverseCtx,
     ) -> Result<(), OutOfMemory> {
+        if self.emits_metadata {
+            self.metadata.at_node(hook, node, ctx)?;
+        }
         match hook {
             Hook::EnterClass => self.enter(node, ctx),
             Hook::ExitMethodDefinition => self.leave_method(node, ctx),

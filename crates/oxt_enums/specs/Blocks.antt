@@ -6,8 +6,9 @@ use Rattle.oxt_declares.specs.declared.declaration.Sort.TheVariants as sort
 use Rattle.oxt_enums.specs.declared.blocks.EnumBlock.{EnumBlock}
 use Rattle.oxt_scopes.specs.Scopes.{number_of}
 use Rattle.oxt_scopes.specs.Nestings.{Opened}
+use Rattle.oxt_scopes.specs.declared.standing.Emission.{Emission}
+use Rattle.oxt_scopes.specs.declared.standing.Emission.TheVariants as emission
 use Rattle.oxt_scopes.specs.declared.standing.Standing.{Standing}
-use Rattle.oxt_scopes.specs.declared.standing.Standing.TheVariants as standing
 
 -- a block of an enum: the number of its body, that of the scope that declares it, its name, whether
 -- it is `const`, and whether it is there at run time
@@ -27,9 +28,12 @@ abbrev pub is_const : Sort → Bool
 is_const sort.ConstEnum = true
 is_const s = false
 
+abbrev pub is_emitted_by : Emission → Bool
+is_emitted_by emission.Emitted = true
+is_emitted_by e = false
+
 abbrev pub is_emitted : Standing → Bool
-is_emitted standing.Emitted = true
-is_emitted s = false
+is_emitted s = is_emitted_by s.emission
 
 -- the declaration in the scope of that number, if it is a block of an enum
 abbrev pub own_block : ℕ → Standing → Declared → List Block

@@ -97,7 +97,7 @@ known_in os ss d = all_known (owner_in os) (block_in (blocks_in ss)) (members_of
 
 -- the same, by its own
 abbrev pub known_of : Doc → List Known
-known_of d = known_in (owners_of d) (scopes_of d) d
+known_of d = known_in (owners_of d) (scopes_of false d) d
 
 -- the constant of a member: its number, its span, its constant, and whether it would be larger than
 -- the largest

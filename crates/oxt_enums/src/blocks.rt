@@ -8,7 +8,7 @@ ghost use Rattle.oxt_tree.specs.View.{doc_or_nil};
 
 use oxt_declares::declaration::{Declaration, Sort};
 use oxt_scopes::scopes::OpenedScope;
-use oxt_scopes::standing::Standing;
+use oxt_scopes::standing::{Emission, Standing};
 use oxt_tree::ids::{NodeId, OutOfMemory};
 use oxt_tree::tree::Part;
 use std::alloc::Global;
@@ -109,8 +109,8 @@ fn is_const(sort: Sort) -> bool
 fn is_emitted(standing: Standing) -> bool
     ensures { result ≡ is_emitted standing }
 {
-    match standing {
-        Standing::Emitted => true,
+    match standing.emission {
+        Emission::Emitted => true,
         _ => false,
     }
 }

@@ -39,7 +39,7 @@ pub fn constants_of(alloc: Global, program: &Node) -> Result<Vec<MemberConstant>
     ensures constants { IfOk result (λ v. told_views v.items ≡ constants (node_doc program.now)) }
 {
     let owners = owners_of(alloc, program)?;
-    let scopes = scopes_of(alloc, program)?;
+    let scopes = scopes_of(alloc, program, false)?;
     let enums = EnumConstants::of(alloc, program, owners.as_slice(), scopes.as_slice())?;
     Ok(enums.into_constants())
 }

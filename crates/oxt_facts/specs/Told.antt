@@ -2,7 +2,7 @@
 -- enums, of their members, of the bare names that mean members, of the expressions that are inlined, of what goes (blocks of
 -- enums that are dropped, imports, exports, specifiers and fields), of a program that is made strict, of the specifiers of modules
 -- that are rewritten, of classes and fields whose values move, of accessors, and of classes whose decorators are called.
-use Rattle.std.specs.Prelude.{ℕ, List, map, Bool, nat_eq, Option, option_map}
+use Rattle.std.specs.Prelude.{ℕ, List, map, Bool, nat_eq, Option, None, option_map}
 use Rattle.std.specs.Map.{lookup}
 use Rattle.oxt_facts.specs.declared.told.MemberValue.{MemberValue}
 use Rattle.oxt_facts.specs.declared.told.MemberValue.TheVariants as member_value
@@ -16,16 +16,21 @@ use Rattle.oxt_facts.specs.declared.told.ToldDecorated.{ToldDecorated}
 use Rattle.oxt_facts.specs.declared.told.ToldElement.{ToldElement}
 use Rattle.oxt_facts.specs.declared.told.ToldField.{ToldField}
 use Rattle.oxt_facts.specs.declared.told.ToldMember.{ToldMember}
+use Rattle.oxt_facts.specs.declared.told.ToldMetadata.{ToldMetadata}
 use Rattle.oxt_facts.specs.declared.told.ToldName.{ToldName}
 use Rattle.oxt_facts.specs.declared.told.ToldNamespace.{ToldNamespace}
 use Rattle.oxt_facts.specs.declared.told.ToldObject.{ToldObject}
 use Rattle.oxt_facts.specs.declared.told.ToldObject.TheVariants as told_object
 use Rattle.oxt_facts.specs.declared.told.ToldStorage.{ToldStorage}
 use Rattle.oxt_facts.specs.declared.told.ToldStorage.TheVariants as told_storage
+use Rattle.oxt_facts.specs.declared.told.ToldType.{ToldType}
+use Rattle.oxt_facts.specs.declared.told.ToldType.TheVariants as told_type
 use Rattle.oxt_facts.specs.declared.told.ToldUse.{ToldUse}
 use Rattle.oxt_facts.specs.declared.told.ToldUse.TheVariants as told_use
 use Rattle.oxt_names.specs.Constant.{Constant, constant_view}
 use Rattle.oxt_tree.specs.Names.{name_bytes}
+use Rattle.std.specs.Prelude.{Vec}
+use Rattle.std.specs.declared.alloc.Global.{Global}
 
 -- the value of a member: a constant, one more than the member of that name, or what is written
 pub data Value : Type 0 where
@@ -86,14 +91,33 @@ pub data Use : Type 0 where
   name_use : List ℕ → Option ℕ → Use
   made_use : List ℕ → Use
 
+-- a type that metadata writes: a global name, `void 0`, or a name of the source, by the number of its first name, that name, and
+-- those behind it
+pub data Typed : Type 0 where
+  global_type : List ℕ → Typed
+  undefined_type : Typed
+  named_type : ℕ → List ℕ → List (List ℕ) → Typed
+
+-- the metadata of a class or of an element of it: the type of the element itself, those of the parameters, and that of what is
+-- returned, each if it is written
+pub record Described : Type 0 where
+  pub design : Option Typed
+  pub parameters : Option (List Typed)
+  pub returned : Option Typed
+
+-- none
+abbrev pub undescribed : Described
+undescribed = record { design = None; parameters = None; returned = None }
+
 -- the call that an element of a class gives: the name of the class, whether the element is one of the class itself, whether its name
--- is private, whether it is a field, and the tag by which the value of its key is kept, if it is
+-- is private, whether it is a field, the tag by which the value of its key is kept, if it is, and the metadata in the call
 pub record Calling : Type 0 where
   pub class : Use
   pub is_static : Bool
   pub is_private : Bool
   pub is_field : Bool
   pub tag : Option (List ℕ)
+  pub metadata : Described
 
 -- an element of a class that gives a call: the call, and whether the element itself stays
 pub record Element : Type 0 where
@@ -134,8 +158,8 @@ pub record Accessing : Type 0 where
 
 -- the declaration of a class that is decorated, behind which the decorators of its elements are called, or that takes a made name:
 -- whether it is decorated itself, the group of the name in it, the name by which it is called, unless it has none, the tag of the
--- name in it, where the source has none there, the tag by which it is kept, if it is, whether it is kept where it is declared, and
--- whether the decorators of its elements are called behind it
+-- name in it, where the source has none there, the tag by which it is kept, if it is, whether it is kept where it is declared,
+-- whether the decorators of its elements are called behind it, and the metadata in its own call
 pub record Decorating : Type 0 where
   pub is_decorated : Bool
   pub number : ℕ
@@ -144,6 +168,7 @@ pub record Decorating : Type 0 where
   pub alias : Option (List ℕ)
   pub keeps_alias : Bool
   pub has_calls : Bool
+  pub metadata : Described
 
 -- what is told of a node: of a bare name, the name and the group of the enum whose member it means; of an expression that is
 -- inlined its constant, and of a specifier of a module that is rewritten its text; `gone`, that the node does nothing;
@@ -215,8 +240,19 @@ abbrev pub use_view : ToldUse → Use
 use_view (told_use.Name n) = name_use (name_bytes n.name) n.group
 use_view (told_use.Made tag) = made_use (name_bytes tag)
 
+abbrev pub type_view : ToldType → Typed
+type_view (told_type.Global name) = global_type (name_bytes name)
+type_view told_type.Undefined = undefined_type
+type_view (told_type.Reference r) = named_type r.root.0 (name_bytes r.name) (map name_bytes r.path.items)
+
+abbrev pub types_view : Vec ToldType Global → List Typed
+types_view ts = map type_view ts.items
+
+abbrev pub metadata_view : ToldMetadata → Described
+metadata_view m = record { design = option_map type_view m.design; parameters = option_map types_view m.parameters; returned = option_map type_view m.returned }
+
 abbrev pub calling_view : ToldCall → Calling
-calling_view c = record { class = use_view c.class; is_static = c.is_static; is_private = c.is_private; is_field = c.is_field; tag = option_map name_bytes c.tag }
+calling_view c = record { class = use_view c.class; is_static = c.is_static; is_private = c.is_private; is_field = c.is_field; tag = option_map name_bytes c.tag; metadata = metadata_view c.metadata }
 
 abbrev pub element_view : ToldElement → Element
 element_view e = record { call = calling_view e.call; stays = e.stays }
@@ -236,7 +272,7 @@ abbrev pub accessing_view : ToldAccessor → Accessing
 accessing_view a = record { is_static = a.is_static; storage = storage_view a.storage; object = holder_view a.object; value_group = a.value_group; moves = a.moves; call = option_map calling_view a.call }
 
 abbrev pub decorating_view : ToldDecorated → Decorating
-decorating_view d = record { is_decorated = d.is_decorated; number = d.number; name = option_map use_view d.name; inner = option_map name_bytes d.inner; alias = option_map name_bytes d.alias; keeps_alias = d.keeps_alias; has_calls = d.has_calls }
+decorating_view d = record { is_decorated = d.is_decorated; number = d.number; name = option_map use_view d.name; inner = option_map name_bytes d.inner; alias = option_map name_bytes d.alias; keeps_alias = d.keeps_alias; has_calls = d.has_calls; metadata = metadata_view d.metadata }
 
 abbrev pub told_view : Told → Telling
 told_view (told.Block b) = block (block_view b)

@@ -129,6 +129,39 @@ pub enum ToldUse {
     Made(Name),
 }
 
+/// What is told of a name of the source that metadata writes for a type.
+#[derive(Debug, Drop)]
+pub struct ToldReference {
+    /// The node that is the first name in it.
+    pub root: NodeId,
+    /// That name.
+    pub name: Name,
+    /// The names behind it.
+    pub path: Vec<Name>,
+}
+
+/// What is told of a type that metadata writes.
+#[derive(Debug, Drop)]
+pub enum ToldType {
+    /// A global name.
+    Global(Name),
+    /// `void 0`.
+    Undefined,
+    /// A name of the source.
+    Reference(ToldReference),
+}
+
+/// What is told of the metadata of a class or of an element of it.
+#[derive(Debug, Drop)]
+pub struct ToldMetadata {
+    /// The type of the element itself, if that is written.
+    pub design: Option<ToldType>,
+    /// The types of the parameters, if these are written.
+    pub parameters: Option<Vec<ToldType>>,
+    /// The type of what is returned, if that is written.
+    pub returned: Option<ToldType>,
+}
+
 /// What is told of the call that an element of a class gives.
 #[derive(Debug, Drop)]
 pub struct ToldCall {
@@ -142,6 +175,8 @@ pub struct ToldCall {
     pub is_field: bool,
     /// The tag by which the value of its key is kept, if it is.
     pub tag: Option<Name>,
+    /// The metadata in it.
+    pub metadata: ToldMetadata,
 }
 
 /// What is told of an element of a class that gives a call.
@@ -219,6 +254,8 @@ pub struct ToldDecorated {
     pub keeps_alias: bool,
     /// Whether the decorators of its elements are called behind it.
     pub has_calls: bool,
+    /// The metadata in its own call.
+    pub metadata: ToldMetadata,
 }
 
 /// What is told of a node.

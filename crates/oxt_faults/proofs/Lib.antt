@@ -1,5 +1,6 @@
 pub mod Bindings
 pub mod Earliests
+pub mod Frees
 pub mod Enough
 pub mod Leasts
 pub mod Symbols

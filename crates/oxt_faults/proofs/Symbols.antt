@@ -2,6 +2,11 @@
 use Rattle.std.proofs.Common.{◌≡◌, ◌∙◌, refl, sym, ap, ℕ, zero, suc, ◌+◌, ◌<◌, ◌≤◌, List, [], ◌∷◌, ◌++◌, length, drop, arith, append_assoc, add-one, length-append, Bool, false, cond, Option, Some, None}
 use Rattle.std.proofs.lemmas.List.{append-nil}
 use Rattle.std.specs.Prelude.{map, nat_lt, option_map, slice_get, slice_index_or}
+use Rattle.oxt_faults.specs.AllCaptured.{all_captured, all_marked}
+use Rattle.oxt_faults.specs.Earliest.{earlier}
+use Rattle.oxt_faults.specs.WrittenNames.{is_written, marked_sought, written_captured, written_marked, written_sought}
+use Rattle.oxt_fields.specs.Rules.{Rules}
+use Rattle.oxt_metadata.specs.Meant.{meant}
 use Rattle.oxt_faults.specs.Captured.{Capture, captured, captured_as, captured_at, emits, is_captured, is_emitted, symbol_at, value_meant}
 use Rattle.oxt_faults.specs.Captured as spec
 use Rattle.oxt_faults.specs.Marks.{captured_symbols, emitting_symbols, mark_at, marked, marked_as, use_of}
@@ -90,6 +95,23 @@ same_sought legacy s ls = λ j. record {
 
 pub marked_found : (legacy : Bool) (s : Scoped) (ls : ℕ → Bool) (bs : List Bool) (d : Doc) (found : Option Capture) → bs ≡ captured_symbols s ls → found ≡ first_in (marked legacy s bs) d tt → found ≡ captured legacy s ls d
 marked_found legacy s ls bs d found are is = is ∙ ap (λ cs. first_in (marked legacy s cs) d tt) are ∙ ap (λ q. first_in q d tt) (same_sought legacy s ls)
+
+-- The same of names that metadata writes.
+written_so : (r : Rules) (s : Scoped) (ls : ℕ → Bool) → marked_sought r s (captured_symbols s ls) ≡ written_sought r s ls
+written_so r s ls = λ j. record {
+  at = λ u k i ds. cond (is_written r i) (captured_so s ls i (meant s i) j) None;
+  inside = (written_sought r s ls).inside;
+  in_field = (written_sought r s ls).in_field;
+}
+
+written_found : (r : Rules) (s : Scoped) (ls : ℕ → Bool) (d : Doc) → written_marked r s (captured_symbols s ls) d ≡ written_captured r s ls d
+written_found r s ls d = ap (λ q. cond r.emits (first_in q d tt) None) (written_so r s ls)
+
+pub all_found : (r : Rules) (s : Scoped) (ls : ℕ → Bool) (bs : List Bool) (d : Doc) (found : Option Capture) → bs ≡ captured_symbols s ls → found ≡ all_marked r s bs d → found ≡ all_captured r s ls d
+all_found r s ls bs d found are is =
+    is ∙ ap (λ cs. all_marked r s cs d) are
+    ∙ ap (λ c. earlier c (written_marked r s (captured_symbols s ls) d)) (marked_found r.legacy s ls (captured_symbols s ls) d _ refl refl)
+    ∙ ap (earlier (captured r.legacy s ls d)) (written_found r s ls d)
 
 -- ---- names that scopes have
 

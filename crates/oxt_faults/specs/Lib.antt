@@ -1,7 +1,9 @@
+pub mod AllCaptured
 pub mod Around
 pub mod Captured
 pub mod Earliest
 pub mod Free
+pub mod Globals
 pub mod Hidden
 pub mod Initializers
 pub mod Level
@@ -16,3 +18,4 @@ pub mod Seats
 pub mod Silent
 pub mod Waiting
 pub mod Words
+pub mod WrittenNames

@@ -7,6 +7,7 @@ use Rattle.oxt_faults.specs.Hidden.{hidden_by}
 use Rattle.oxt_faults.specs.Level.{moved_word}
 use Rattle.oxt_faults.specs.Redeclared.{is_again, own_names, redeclared_by}
 use Rattle.oxt_faults.specs.Waiting.{has_expression, word_left}
+use Rattle.oxt_faults.specs.WrittenNames.{hidden_written_by}
 use Rattle.oxt_faults.specs.declared.around.ClassAround.{ClassAround}
 use Rattle.oxt_faults.specs.declared.word.Destination.TheVariants as destination
 use Rattle.oxt_fields.specs.Classes.{constructor_in}
@@ -29,34 +30,36 @@ use Rattle.oxt_unbuilt.specs.Dropped.{inside_dropped_by, is_dropped_by}
 
 -- ---- fields
 
+-- a name that the constructor declares: one that is used as a value, or that metadata writes
+abbrev pub name_hidden : Rules → Scoped → ClassAround → Doc → Option Capture
+name_hidden r s a d = earlier (hidden_by r.legacy s a.scopes d) (hidden_written_by r s a.scopes d)
+
 -- In code of a static field that moves into a static block, a word that would mean something else there. In code of another
--- field, which moves into the constructor, such a word or a name that the constructor declares. The flag says that
--- decorators have their older meaning.
-abbrev pub captured_in : Bool → Scoped → ClassAround → Bool → Doc → Option Capture
-captured_in legacy s a st d =
-    if st then option_map of_word (moved_word legacy destination.StaticBlock d)
-    else earlier (option_map of_word (moved_word legacy destination.Constructor d)) (hidden_by legacy s a.scopes d)
+-- field, which moves into the constructor, such a word or a name that the constructor declares.
+abbrev pub captured_in : Rules → Scoped → ClassAround → Bool → Doc → Option Capture
+captured_in r s a st d =
+    if st then option_map of_word (moved_word r.legacy destination.StaticBlock d)
+    else earlier (option_map of_word (moved_word r.legacy destination.Constructor d)) (name_hidden r s a d)
 
 -- The key of an element that moves is written where that is set, if it is a field, its key is an expression, and no temporary
 -- keeps that: that of an `accessor` stays with what becomes of it.
 abbrev pub moves_key : Bool → Kind → Docs → Bool
 moves_key has_temporary k ds = same_kind k kind.PropertyDefinition && (not has_temporary && has_expression k ds)
 
-abbrev pub key_capture : Bool → Scoped → ClassAround → Bool → Kind → Docs → Option Capture
-key_capture legacy s a has_temporary k ds =
-    if moves_key has_temporary k ds then captured_in legacy s a (is_static k ds) (named (codes "key") k ds) else None
+abbrev pub key_capture : Rules → Scoped → ClassAround → Bool → Kind → Docs → Option Capture
+key_capture r s a has_temporary k ds =
+    if moves_key has_temporary k ds then captured_in r s a (is_static k ds) (named (codes "key") k ds) else None
 
 -- what would be captured in the value of a field, and in its key where that moves with it
-abbrev pub capture_by : Bool → Scoped → ClassAround → Kind → Docs → Fate → Option Capture
-capture_by legacy s a k ds fates.Stays = None
-capture_by legacy s a k ds fates.Goes = None
-capture_by legacy s a k ds fates.LeavesKey = None
-capture_by legacy s a k ds (fates.Moves stays has_temporary) =
-    earlier
-    (captured_in legacy s a (is_static k ds) (named (codes "value") k ds)) (key_capture legacy s a has_temporary k ds)
+abbrev pub capture_by : Rules → Scoped → ClassAround → Kind → Docs → Fate → Option Capture
+capture_by r s a k ds fates.Stays = None
+capture_by r s a k ds fates.Goes = None
+capture_by r s a k ds fates.LeavesKey = None
+capture_by r s a k ds (fates.Moves stays has_temporary) =
+    earlier (captured_in r s a (is_static k ds) (named (codes "value") k ds)) (key_capture r s a has_temporary k ds)
 
 abbrev pub field_capture : Scoped → Rules → ClassAround → Kind → Docs → Option Capture
-field_capture s r a k ds = capture_by r.legacy s a k ds (fate_by r a.hoists k ds)
+field_capture s r a k ds = capture_by r s a k ds (fate_by r a.hoists k ds)
 
 -- ---- classes
 

@@ -1,20 +1,25 @@
-//! Names that lowered code has of its own: `module`, `require` and `babelHelpers`, which are free, and `value`.
+//! Names that lowered code has of its own: `module`, `require`, `babelHelpers` and the global names of metadata, which are free,
+//! and `value`.
 ghost use Rattle.std.specs.Prelude.{◌≡◌, ◌<◌, codes, length, option_map};
 ghost use Rattle.oxt_faults.specs.Captured.{Capture, emits_at, is_emitted, symbol_at};
-ghost use Rattle.oxt_faults.specs.Free.{free, free_around, free_at, free_in, free_inside, free_view, has_call, in_scope, is_static_accessor, is_value_class, made_word, nothing_taken, outside_class, seen_from, sought, text_of_free, word_at};
+ghost use Rattle.oxt_faults.specs.Free.{call_word, free, free_around, free_at, free_in, free_inside, free_view, globals_around, has_call, in_scope, is_static_accessor, is_value_class, made_word, nothing_taken, outside_class, seen_from, sought, text_of_free, word_at, word_of_call};
+ghost use Rattle.oxt_fields.specs.Rules.{rules_view};
 ghost use Rattle.oxt_grammar.specs.Field.{row_view};
 ghost use Rattle.oxt_options.specs.Facts.{is_in};
 ghost use Rattle.oxt_tree.specs.View.{docs_in, node_doc};
 
 use crate::around::is_class;
+use crate::globals::{Globals, global_taken, no_globals, with_globals};
 use crate::outside::emits;
 use oxt_decorated::calls::{is_called, is_decorated};
+use oxt_fields::rules::FieldRules;
 use oxt_grammar::field::Field;
 use oxt_grammar::holds::Row;
 use oxt_grammar::kind::Kind;
 use oxt_modules::alias::is_required;
 use oxt_modules::nodes::NodeList;
 use oxt_names::ids::{ScopeId, SymbolId};
+use oxt_options::metadata::GlobalName;
 use oxt_scoping::scoping::Scoping;
 use oxt_search::first::first_in;
 use oxt_search::search::{Inside, Search, Visit};
@@ -31,6 +36,8 @@ pub enum FreeWord {
     Require,
     /// `babelHelpers`, for the call of a decorated element of a class, or of a decorated class.
     BabelHelpers,
+    /// A global name, for the metadata of either.
+    Global(GlobalName),
     /// `value`, for what is set to a static `accessor`.
     Value,
 }
@@ -44,6 +51,7 @@ impl FreeWord {
             FreeWord::Module => "module",
             FreeWord::Require => "require",
             FreeWord::BabelHelpers => "babelHelpers",
+            FreeWord::Global(name) => name.as_str(),
             FreeWord::Value => "value",
         }
     }
@@ -68,6 +76,8 @@ pub struct Taken {
     pub require: bool,
     /// `babelHelpers`.
     pub helpers: bool,
+    /// The global names of metadata, where that is emitted.
+    pub globals: Globals,
     /// The node is an element of a class declaration, or the body of one, where decorators have their older meaning.
     pub is_called: bool,
     /// The node is an element of a class of the name `value`, or the body of one, where they have that.
@@ -75,19 +85,19 @@ pub struct Taken {
 }
 
 /// The first node outside erased code for which a name is made that would mean a declaration. An `export =`, an `import =` of
-/// a module that is kept and, where decorators have their older meaning, as `legacy` says, a decorated element of a class
-/// declaration and a decorated class have a free name, and it is in danger where a declaration around that emits code has it.
+/// a module that is kept and, where decorators have their older meaning, a decorated element of a class declaration and a
+/// decorated class have free names, and these are in danger where a declaration around that emits code has them.
 /// A static `accessor` has the name `value`, which the class may have that is written there.
 pub fn first_free(
-    legacy: bool,
+    rules: FieldRules,
     program: &Node,
     scoping: &Scoping,
     kept: &NodeList,
 ) -> Option<FoundFree>
-    ensures { option_map free_view result ≡ free legacy scoping.now (is_in kept.now) (node_doc program.now) }
+    ensures { option_map free_view result ≡ free (rules_view rules.entry) scoping.now (is_in kept.now) (node_doc program.now) }
 {
     let frees = Frees {
-        legacy,
+        rules,
         scoping,
         kept,
     };
@@ -102,6 +112,7 @@ fn nothing_taken() -> Taken
         module: false,
         require: false,
         helpers: false,
+        globals: no_globals(),
         is_called: false,
         is_value: false,
     }
@@ -110,8 +121,8 @@ fn nothing_taken() -> Taken
 /// The search for such nodes.
 #[derive(Clone, Copy)]
 struct Frees<'a> {
-    /// Decorators have their older meaning.
-    legacy: bool,
+    /// Whether decorators have their older meaning, and what metadata writes.
+    rules: FieldRules<'a>,
     /// What scopes declare.
     scoping: &'a Scoping,
     /// What is kept.
@@ -127,12 +138,12 @@ impl<'a> Search for Frees<'a> {
 
     ghost view = { free_view };
 
-    ghost sought = { λ frees. sought frees.legacy frees.scoping.now (is_in frees.kept.now) };
+    ghost sought = { λ frees. sought (rules_view frees.rules) frees.scoping.now (is_in frees.kept.now) };
 
     fn visit(&self, node: &Node, taken: Taken) -> Visit<FoundFree, Taken> {
         Visit {
-            found: free_at(self.legacy, self.kept, taken, node),
-            inside: free_inside(self.legacy, self.scoping, taken, node),
+            found: free_at(self.rules, self.kept, taken, node),
+            inside: free_inside(self.rules, self.scoping, taken, node),
         }
     }
 
@@ -142,17 +153,17 @@ impl<'a> Search for Frees<'a> {
 }
 
 /// How the search goes on inside a node: what is in a class is told apart by its fields.
-fn free_inside(legacy: bool, scoping: &Scoping, taken: Taken, node: &Node) -> Inside<Taken>
+fn free_inside(rules: FieldRules, scoping: &Scoping, taken: Taken, node: &Node) -> Inside<Taken>
     ensures { result
-        ≡ free_inside legacy scoping.now taken node.now.kind node.now.id.0 (docs_in node.now.parts.items) }
+        ≡ free_inside (rules_view rules.entry) scoping.now taken node.now.kind node.now.id.0 (docs_in node.now.parts.items) }
 {
     if is_dropped(node) {
-        return inside_dropped(legacy, node, outside_class(taken));
+        return inside_dropped(rules.legacy, node, outside_class(taken));
     }
-    let around = taken_around(scoping, taken, node);
+    let around = taken_around(rules, scoping, taken, node);
     if node.kind.is(Kind::ClassBody) {
         Inside::Alike(around)
-    } else if legacy && is_class(node.kind) {
+    } else if rules.legacy && is_class(node.kind) {
         Inside::ByField(seen_from(around, node))
     } else {
         Inside::Alike(outside_class(around))
@@ -178,6 +189,7 @@ fn outside_class(taken: Taken) -> Taken
         module: taken.module,
         require: taken.require,
         helpers: taken.helpers,
+        globals: taken.globals,
         is_called: false,
         is_value: false,
     }
@@ -191,6 +203,7 @@ fn seen_from(taken: Taken, class: &Node) -> Taken
         module: taken.module,
         require: taken.require,
         helpers: taken.helpers,
+        globals: taken.globals,
         is_called: class.kind.is(Kind::ClassDeclaration),
         is_value: is_value_class(class),
     }
@@ -207,11 +220,11 @@ fn is_value_class(class: &Node) -> bool
 }
 
 /// The node, if a name is made for it that is in danger.
-fn free_at(legacy: bool, kept: &NodeList, taken: Taken, node: &Node) -> Option<FoundFree>
+fn free_at(rules: FieldRules, kept: &NodeList, taken: Taken, node: &Node) -> Option<FoundFree>
     ensures { option_map free_view result
-        ≡ free_at legacy (is_in kept.now) taken node.now.kind node.now.id.0 (docs_in node.now.parts.items) }
+        ≡ free_at (rules_view rules.entry) (is_in kept.now) taken node.now.kind node.now.id.0 (docs_in node.now.parts.items) }
 {
-    let word = word_at(legacy, kept, taken, node)?;
+    let word = word_at(rules, kept, taken, node)?;
     Some(FoundFree {
         node: node.id,
         word,
@@ -219,16 +232,36 @@ fn free_at(legacy: bool, kept: &NodeList, taken: Taken, node: &Node) -> Option<F
 }
 
 /// The name that is made for the node, if it is in danger.
-fn word_at(legacy: bool, kept: &NodeList, taken: Taken, node: &Node) -> Option<FreeWord>
+fn word_at(rules: FieldRules, kept: &NodeList, taken: Taken, node: &Node) -> Option<FreeWord>
     ensures { result
-        ≡ word_at legacy (is_in kept.now) taken node.now.kind node.now.id.0 (docs_in node.now.parts.items) }
+        ≡ word_at (rules_view rules.entry) (is_in kept.now) taken node.now.kind node.now.id.0 (docs_in node.now.parts.items) }
 {
-    if taken.helpers && has_call(legacy, taken, node) {
-        Some(FreeWord::BabelHelpers)
-    } else if is_dropped(node) {
-        None
+    match call_word(rules, taken, node) {
+        Some(word) => Some(word),
+        None if is_dropped(node) => None,
+        None => made_word(kept, taken, node),
+    }
+}
+
+/// The name that is made for the call of the node, if it has one, and that is in danger.
+fn call_word(rules: FieldRules, taken: Taken, node: &Node) -> Option<FreeWord>
+    ensures { result ≡ call_word (rules_view rules.entry) taken node.now.kind (docs_in node.now.parts.items) }
+{
+    if has_call(rules.legacy, taken, node) {
+        word_of_call(rules, taken, node)
     } else {
-        made_word(kept, taken, node)
+        None
+    }
+}
+
+/// The same, where it has a call: `babelHelpers`, or a global name of its metadata.
+fn word_of_call(rules: FieldRules, taken: Taken, node: &Node) -> Option<FreeWord>
+    ensures { result ≡ word_of_call (rules_view rules.entry) taken node.now.kind (docs_in node.now.parts.items) }
+{
+    if taken.helpers {
+        Some(FreeWord::BabelHelpers)
+    } else {
+        Some(FreeWord::Global(global_taken(rules, taken.globals, node)?))
     }
 }
 
@@ -264,14 +297,15 @@ fn is_static_accessor(node: &Node) -> bool
 }
 
 /// Which of the names are taken inside the node, where these are around it.
-fn taken_around(scoping: &Scoping, taken: Taken, node: &Node) -> Taken
-    ensures { result ≡ free_around scoping.now taken node.now.id.0 }
+fn taken_around(rules: FieldRules, scoping: &Scoping, taken: Taken, node: &Node) -> Taken
+    ensures { result ≡ free_around (rules_view rules.entry) scoping.now taken node.now.id.0 }
 {
     match scoping.scope_of(node.id) {
         Some(scope) => Taken {
             module: taken.module || is_taken_in(scoping, scope, "module"),
             require: taken.require || is_taken_in(scoping, scope, "require"),
             helpers: taken.helpers || is_taken_in(scoping, scope, "babelHelpers"),
+            globals: globals_around(rules, scoping, taken.globals, scope),
             is_called: taken.is_called,
             is_value: taken.is_value,
         },
@@ -279,9 +313,21 @@ fn taken_around(scoping: &Scoping, taken: Taken, node: &Node) -> Taken
     }
 }
 
+/// Which of the global names of metadata are taken inside the scope, where these are around it, if metadata is emitted.
+fn globals_around(rules: FieldRules, scoping: &Scoping, globals: Globals, scope: ScopeId) -> Globals
+    requires { scope.0 < length scoping.now.scopes }
+    ensures { result ≡ globals_around (rules_view rules.entry) scoping.now globals scope }
+{
+    if rules.emits_metadata {
+        with_globals(scoping, globals, scope)
+    } else {
+        globals
+    }
+}
+
 /// Whether a declaration of that name in the scope emits code.
 #[tactic(auto, using(crate::proofs::Symbols::taken_steps))]
-fn is_taken_in(scoping: &Scoping, scope: ScopeId, name: &str) -> bool
+pub fn is_taken_in(scoping: &Scoping, scope: ScopeId, name: &str) -> bool
     requires { scope.0 < length scoping.now.scopes }
     ensures { result ≡ emits_at scoping.now name.now scope }
 {

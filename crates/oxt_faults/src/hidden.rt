@@ -3,7 +3,6 @@ ghost use Rattle.std.specs.Prelude.{◌≡◌, ◌<◌, IfSome, Some, length, op
 ghost use Rattle.oxt_faults.specs.Earliest.{moved_view};
 ghost use Rattle.oxt_faults.specs.Hidden.{bound_by, comes_from_outside, hidden_at, hidden_by, hidden_name, is_value, is_value_symbol, lies_within, reference_at, sought, value_as};
 ghost use Rattle.oxt_faults.specs.Captured.{Capture, symbol_at};
-ghost use Rattle.oxt_scoping.specs.Entries.{value_bits};
 ghost use Rattle.oxt_tree.specs.View.{doc_or_nil, docs_in, node_doc};
 
 use crate::around::ClassScopes;
@@ -16,7 +15,7 @@ use oxt_grammar::holds::Row;
 use oxt_grammar::kind::Kind;
 use oxt_names::flags::{ReferenceFlags, SymbolFlags};
 use oxt_names::ids::{ScopeId, SymbolId};
-use oxt_scoping::entry::Reference;
+use oxt_scoping::entry::{Reference, value_flags};
 use oxt_scoping::scoping::Scoping;
 use oxt_search::first::{first_among, first_in};
 use oxt_search::search::{Inside, Search, Visit};
@@ -133,7 +132,7 @@ fn is_from_outside(scoping: &Scoping, own: ScopeId, reference: &Reference) -> bo
 }
 
 /// Whether the symbol is declared inside the scope. Scopes inside have greater numbers.
-fn lies_within(scoping: &Scoping, own: ScopeId, symbol: Option<SymbolId>) -> bool
+pub fn lies_within(scoping: &Scoping, own: ScopeId, symbol: Option<SymbolId>) -> bool
     ensures { result ≡ lies_within own (symbol_at scoping.now.symbols symbol) }
 {
     match symbol {
@@ -165,7 +164,7 @@ pub fn bound_by(scoping: &Scoping, scope: ScopeId, name: Option<&str>) -> Option
 }
 
 /// The name of the symbol, if it is more than a type, at that node.
-fn value_as<'a>(scoping: &'a Scoping, node: NodeId, symbol: SymbolId) -> Option<MovedName<'a>>
+pub fn value_as<'a>(scoping: &'a Scoping, node: NodeId, symbol: SymbolId) -> Option<MovedName<'a>>
     requires { symbol.0 < length scoping.now.symbols }
     ensures { option_map moved_view result ≡ value_as node.0 (slice_get scoping.now.symbols symbol.0) }
 {
@@ -194,20 +193,4 @@ fn is_value(flags: SymbolFlags) -> bool
     ensures { result ≡ is_value flags }
 {
     flags.intersects(value_flags())
-}
-
-/// The flags of what is more than a type.
-fn value_flags() -> SymbolFlags
-    ensures { result.0 ≡ value_bits }
-{
-    SymbolFlags::FunctionScopedVariable
-        .union(SymbolFlags::BlockScopedVariable)
-        .union(SymbolFlags::ConstVariable)
-        .union(SymbolFlags::Class)
-        .union(SymbolFlags::Function)
-        .union(SymbolFlags::Import)
-        .union(SymbolFlags::Enum)
-        .union(SymbolFlags::ConstEnum)
-        .union(SymbolFlags::EnumMember)
-        .union(SymbolFlags::ValueModule)
 }

@@ -2,7 +2,7 @@
 ghost use Rattle.std.specs.Prelude.{◌≡◌, IfOk, option_map};
 ghost use Rattle.oxt_faults.specs.Captured.{Capture};
 ghost use Rattle.oxt_faults.specs.Earliest.{moved_view};
-ghost use Rattle.oxt_faults.specs.Moved.{capture_with, captured_at, captured_in, class_capture, field_capture, key_capture, moved_capture, moves_key, sought};
+ghost use Rattle.oxt_faults.specs.Moved.{capture_with, captured_at, captured_in, class_capture, field_capture, key_capture, moved_capture, moves_key, name_hidden, sought};
 ghost use Rattle.oxt_faults.specs.Redeclared.{mark_by};
 ghost use Rattle.oxt_fields.specs.Rules.{rules_view};
 ghost use Rattle.oxt_tree.specs.View.{doc_or_nil, docs_in, node_doc};
@@ -15,6 +15,7 @@ use crate::level::first_moved_word;
 use crate::redeclared::{first_redeclared, own_names, redeclared_symbols};
 use crate::waiting::{first_word_left, has_expression};
 use crate::word::Destination;
+use crate::written::first_hidden_written;
 use oxt_fields::class::{constructor_of, elements_of};
 use oxt_fields::fate::{Fate, fate_of, hoists_private, is_static};
 use oxt_fields::rules::FieldRules;
@@ -161,7 +162,7 @@ fn field_capture<'a>(
     match fate_of(rules, around.hoists, node) {
         Fate::Moves { has_temporary, .. } => {
             let value = captured_in(
-                rules.legacy,
+                rules,
                 scoping,
                 around,
                 is_static(node),
@@ -169,7 +170,7 @@ fn field_capture<'a>(
             );
             earlier(
                 value,
-                key_capture(rules.legacy, scoping, around, has_temporary, node),
+                key_capture(rules, scoping, around, has_temporary, node),
             )
         }
         _ => None,
@@ -178,18 +179,18 @@ fn field_capture<'a>(
 
 /// What would be captured in the key of the field, if that is written where the field is set.
 fn key_capture<'a>(
-    legacy: bool,
+    rules: FieldRules,
     scoping: &'a Scoping,
     around: ClassAround,
     has_temporary: bool,
     node: &Node,
 ) -> Option<MovedName<'a>>
     ensures { option_map moved_view result
-        ≡ key_capture legacy scoping.now around has_temporary node.now.kind (docs_in node.now.parts.items) }
+        ≡ key_capture (rules_view rules.entry) scoping.now around has_temporary node.now.kind (docs_in node.now.parts.items) }
 {
     if moves_key(has_temporary, node) {
         captured_in(
-            legacy,
+            rules,
             scoping,
             around,
             is_static(node),
@@ -210,19 +211,37 @@ fn moves_key(has_temporary: bool, node: &Node) -> bool
 
 /// What would be captured in code that goes with a field, static or not.
 fn captured_in<'a>(
-    legacy: bool,
+    rules: FieldRules,
     scoping: &'a Scoping,
     around: ClassAround,
     is_static: bool,
     part: Option<&Part>,
 ) -> Option<MovedName<'a>>
     ensures { option_map moved_view result
-        ≡ captured_in legacy scoping.now around is_static (doc_or_nil part.entry) }
+        ≡ captured_in (rules_view rules.entry) scoping.now around is_static (doc_or_nil part.entry) }
 {
     if is_static {
-        of_word(first_moved_word(legacy, Destination::StaticBlock, part))
+        of_word(first_moved_word(rules.legacy, Destination::StaticBlock, part))
     } else {
-        let word = of_word(first_moved_word(legacy, Destination::Constructor, part));
-        earlier(word, first_hidden(legacy, scoping, around.scopes, part))
+        let word = of_word(first_moved_word(rules.legacy, Destination::Constructor, part));
+        earlier(word, first_name(rules, scoping, around, part))
     }
+}
+
+/// The first name in code of an instance field that the constructor declares: one that is used as a value, or that metadata
+/// writes.
+fn first_name<'a>(
+    rules: FieldRules,
+    scoping: &'a Scoping,
+    around: ClassAround,
+    part: Option<&Part>,
+) -> Option<MovedName<'a>>
+    ensures { option_map moved_view result
+        ≡ name_hidden (rules_view rules.entry) scoping.now around (doc_or_nil part.entry) }
+{
+    let used = first_hidden(rules.legacy, scoping, around.scopes, part);
+    earlier(
+        used,
+        first_hidden_written(rules, scoping, around.scopes, part),
+    )
 }

@@ -1,5 +1,5 @@
 -- Names that are read as the alias of a decorated class.
-use Rattle.std.specs.Prelude.{ℕ, List, [], ◌∷◌, ◌++◌, Bool, true, false, not, ◌&&◌, ◌||◌, nat_eq, if◌then◌else◌, Option, None, Some, codes}
+use Rattle.std.specs.Prelude.{ℕ, List, [], ◌∷◌, ◌++◌, Bool, true, false, not, ◌&&◌, ◌||◌, ◌==◌, nat_eq, if◌then◌else◌, Option, None, Some, codes}
 use Rattle.std.specs.List.{list_any}
 use Rattle.std.specs.Str.{bytes_eq}
 use Rattle.oxt_decorated.specs.Calls.{elements_of, is_constructor, is_decorated}
@@ -48,11 +48,15 @@ inside_element k ds =
     else if is_constructor (node k 0 0 0 ds) then inside.ByField place.Undecorated
     else inside.ByField place.Element
 
--- other code: neither types nor erased code counts, and not the key of an empty field that goes and leaves nothing
+-- other code that is erased: of a field that is only declared nothing but its decorators and its annotation is looked at
+abbrev pub inside_erased : Kind → Docs → Inside Place
+inside_erased k ds = if is_declared_field k ds then inside.ByField place.Declared else inside.Skipped
+
+-- other code: erased code does not count, and not the key of an empty field that goes and leaves nothing
 abbrev pub inside_code : Rules → Kind → Docs → Inside Place
 inside_code r k ds =
-    if is_type k then inside.Skipped
-    else if is_dropped_by k ds then inside_dropped_by true k ds place.Code
+    if is_type k then inside.Alike place.Type
+    else if is_dropped_by k ds then inside_erased k ds
     else if is_gone (fate_by r false k ds) then inside.ByField place.Keyless
     else inside.Alike place.Code
 
@@ -63,6 +67,8 @@ inside_by r place.Parameters k ds = inside.ByField place.Parameters
 inside_by r place.Undecorated k ds = inside.ByField place.Undecorated
 inside_by r place.Keyless k ds = inside.ByField place.Keyless
 inside_by r place.Code k ds = inside_code r k ds
+inside_by r place.Declared k ds = inside.ByField place.Declared
+inside_by r place.Type k ds = inside.Alike place.Type
 
 -- code, unless it is the field of that name
 abbrev pub but : List ℕ → Field → Option Place
@@ -78,6 +84,13 @@ in_element k f =
     if same_kind k kind.MethodDefinition && bytes_eq f.name (codes "value") then Some place.Function
     else but (codes "decorators") f
 
+-- of a field that is only declared: its decorators, and its annotation
+abbrev pub in_declared : Field → Option Place
+in_declared f =
+    if bytes_eq f.name (codes "decorators") then Some place.Code
+    else if bytes_eq f.name (codes "typeAnnotation") then Some place.Type
+    else None
+
 -- How the fields of a node are reached: an element, or one of the parameters of a method, without its own decorators, which do
 -- not see the class; the parameters of a constructor with theirs.
 abbrev pub field_by : Place → Kind → Field → Option Place
@@ -87,6 +100,8 @@ field_by place.Parameters k f = with (codes "items") place.Undecorated f
 field_by place.Undecorated k f = but (codes "decorators") f
 field_by place.Keyless k f = but (codes "key") f
 field_by place.Code k f = Some place.Code
+field_by place.Declared k f = in_declared f
+field_by place.Type k f = Some place.Type
 
 -- ---- uses
 
@@ -100,11 +115,21 @@ same_symbol (Some i) (Some j) = nat_eq i.0 j.0
 abbrev pub use_at : Scoped → Option SymbolId → ℕ → Kind → ℕ → Option (ℕ × ℕ)
 use_at s y c k i = if same_kind k kind.IdentifierReference && same_symbol (meant s i) y then Some (i, c) else None
 
+-- a name is written by the metadata of a class, and of another one than that
+abbrev pub is_written_inside : ℕ → Option ℕ → Bool
+is_written_inside c None = false
+is_written_inside c (Some w) = not (w == c)
+
+-- a name of that number counts there: in a type one that the metadata of a class inside that one writes as a value
+abbrev pub is_seen : Rules → Place → ℕ → ℕ → Bool
+is_seen r place.Type c i = is_written_inside c (r.written i)
+is_seen r p c i = true
+
 -- the uses of the class with that symbol and number
 abbrev pub uses : Scoped → Rules → Option SymbolId → ℕ → Sought Place (ℕ × ℕ)
 uses s r y c =
     record {
-      at = λ p k i ds. use_at s y c k i;
+      at = λ p k i ds. if is_seen r p c i then use_at s y c k i else None;
       inside = λ p k i ds. inside_by r p k ds;
       in_field = λ p k f. field_by p k f;
     }
@@ -151,6 +176,7 @@ joined (x ∷ xs) = x ++ joined xs
 
 -- The names that are read as the alias of a decorated class, each with the number of the class: those that mean it, in its body.
 -- The decorators of its elements and of the parameters of its methods do not count, but those of the parameters of its
--- constructor do; nor do types, erased code, and keys of fields that a class inside the body drops.
+-- constructor do; nor do types, but for names that the metadata of a class inside the body writes as values, erased code, and keys
+-- of fields that a class inside the body drops.
 abbrev pub alias_uses : Scoped → Rules → Doc → List (ℕ × ℕ)
 alias_uses s r d = if r.legacy then joined (all_in (decorated s r) d tt) else []

@@ -1,7 +1,7 @@
 //! Names that are read as the alias of a decorated class.
 ghost use Rattle.std.specs.List.{list_any};
-ghost use Rattle.std.specs.Prelude.{◌≡◌, ◌++◌, ℕ, IfOk, OnOk, option_map};
-ghost use Rattle.oxt_fields.specs.Aliases.{but, class_uses, declared_by, field_by, in_element, inside_by, inside_code, inside_element, is_gone, is_type, same_symbol, type_kinds, use_at, uses, with};
+ghost use Rattle.std.specs.Prelude.{◌≡◌, ◌++◌, ℕ, IfOk, None, OnOk, if◌then◌else◌, option_map};
+ghost use Rattle.oxt_fields.specs.Aliases.{but, class_uses, declared_by, field_by, in_declared, in_element, inside_by, inside_code, inside_element, inside_erased, is_gone, is_seen, is_type, is_written_inside, same_symbol, type_kinds, use_at, uses, with};
 ghost use Rattle.oxt_fields.specs.Rules.{rules_view};
 ghost use Rattle.oxt_grammar.specs.Field.{row_view};
 ghost use Rattle.oxt_grammar.specs.Keys.{key_of};
@@ -23,7 +23,7 @@ use oxt_search::all::push_among;
 use oxt_search::search::{Inside, Search, Visit};
 use oxt_tree::ids::{NodeId, OutOfMemory};
 use oxt_tree::tree::{Node, Part};
-use oxt_unbuilt::dropped::{inside_dropped, is_declared_field, is_dropped};
+use oxt_unbuilt::dropped::{is_declared_field, is_dropped};
 
 /// Where the search for the uses of a decorated class stands.
 #[derive(Clone, Copy, Debug, PartialEq, Eq)]
@@ -40,6 +40,10 @@ pub enum Place {
     Keyless,
     /// In other code.
     Code,
+    /// At a field of a class inside that is only declared.
+    Declared,
+    /// In a type.
+    Type,
 }
 
 /// Appends the uses of the class in its own body, each with the number of the class.
@@ -97,13 +101,48 @@ impl<'a, 'b> Search for Uses<'a, 'b> {
 
     fn visit(&self, node: &Node, place: Place) -> Visit<(NodeId, NodeId), Place> {
         Visit {
-            found: use_at(self.scoping, self.symbol, self.class, node.kind, node.id),
+            found: self.found_at(place, node),
             inside: inside_by(self.rules, place, node),
         }
     }
 
     fn in_field(&self, place: Place, kind: Kind, row: &Row) -> Option<Place> {
         field_by(place, kind, row)
+    }
+}
+
+impl<'a, 'b> Uses<'a, 'b> {
+    /// The node with the class, if it is a use that counts where it stands.
+    fn found_at(&self, place: Place, node: &Node) -> Option<(NodeId, NodeId)>
+        ensures { option_map (λ pair. (pair.0.0, pair.1.0)) result
+            ≡ (if is_seen (rules_view self.now.rules) place self.now.class.0 node.now.id.0
+            then use_at self.now.scoping.now self.now.symbol self.now.class.0 node.now.kind node.now.id.0 else None) }
+    {
+        if is_seen(self.rules, place, self.class, node.id) {
+            use_at(self.scoping, self.symbol, self.class, node.kind, node.id)
+        } else {
+            None
+        }
+    }
+}
+
+/// Whether a name counts there: in a type one that the metadata of a class inside this one writes as a value.
+fn is_seen(rules: FieldRules, place: Place, class: NodeId, node: NodeId) -> bool
+    ensures { result ≡ is_seen (rules_view rules.entry) place class.0 node.0 }
+{
+    match place {
+        Place::Type => is_written_inside(class, rules.plan.written_by(node)),
+        _ => true,
+    }
+}
+
+/// Whether a name is written by the metadata of a class, and of another one than that.
+fn is_written_inside(class: NodeId, writer: Option<NodeId>) -> bool
+    ensures { result ≡ is_written_inside class.0 (option_map (λ writer. writer.0) writer) }
+{
+    match writer {
+        Some(writer) => writer.0 != class.0,
+        None => false,
     }
 }
 
@@ -148,6 +187,8 @@ fn inside_by(rules: FieldRules, place: Place, node: &Node) -> Inside<Place>
         Place::Undecorated => Inside::ByField(Place::Undecorated),
         Place::Keyless => Inside::ByField(Place::Keyless),
         Place::Code => inside_code(rules, node),
+        Place::Declared => Inside::ByField(Place::Declared),
+        Place::Type => Inside::Alike(Place::Type),
     }
 }
 
@@ -169,13 +210,24 @@ fn inside_code(rules: FieldRules, node: &Node) -> Inside<Place>
     ensures { result ≡ inside_code (rules_view rules.entry) node.now.kind (docs_in node.now.parts.items) }
 {
     if is_type(node.kind) {
-        Inside::Skipped
+        Inside::Alike(Place::Type)
     } else if is_dropped(node) {
-        inside_dropped(true, node, Place::Code)
+        inside_erased(node)
     } else if is_gone(fate_of(rules, false, node)) {
         Inside::ByField(Place::Keyless)
     } else {
         Inside::Alike(Place::Code)
+    }
+}
+
+/// How it goes on inside other code that is erased.
+fn inside_erased(node: &Node) -> Inside<Place>
+    ensures { result ≡ inside_erased node.now.kind (docs_in node.now.parts.items) }
+{
+    if is_declared_field(node) {
+        Inside::ByField(Place::Declared)
+    } else {
+        Inside::Skipped
     }
 }
 
@@ -226,6 +278,8 @@ fn field_by(place: Place, kind: Kind, row: &Row) -> Option<Place>
         Place::Undecorated => but(Field::Decorators, row),
         Place::Keyless => but(Field::Key, row),
         Place::Code => Some(Place::Code),
+        Place::Declared => in_declared(row),
+        Place::Type => Some(Place::Type),
     }
 }
 
@@ -237,6 +291,19 @@ fn in_element(kind: Kind, row: &Row) -> Option<Place>
         Some(Place::Function)
     } else {
         but(Field::Decorators, row)
+    }
+}
+
+/// How a field of an element is reached that is only declared: its decorators, and its annotation.
+fn in_declared(row: &Row) -> Option<Place>
+    ensures { result ≡ in_declared (row_view row.now) }
+{
+    if row.is(Field::Decorators) {
+        Some(Place::Code)
+    } else if row.is(Field::TypeAnnotation) {
+        Some(Place::Type)
+    } else {
+        None
     }
 }
 

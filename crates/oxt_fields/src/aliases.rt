@@ -23,8 +23,9 @@ use std::alloc::Global;
 
 /// The names that are read as the alias of a decorated class, each with the number of the class, where decorators are lowered:
 /// those that mean it, in its body. The decorators of its elements and of the parameters of its methods do not count, but those
-/// of the parameters of its constructor do; nor do types, erased code, and keys of fields that a class inside the body drops.
-/// The plan of the rules need not know of aliases yet.
+/// of the parameters of its constructor do; nor do types, but for names that the metadata of a class inside the body writes as
+/// values, erased code, and keys of fields that a class inside the body drops. The plan of the rules need not know of aliases
+/// yet.
 ///
 /// # Errors
 ///

@@ -1,7 +1,6 @@
 //! The rules by which fields are lowered.
 ghost use Rattle.std.specs.Prelude.{◌≡◌};
-ghost use Rattle.oxt_fields.specs.Rules.{rules_of, rules_view};
-ghost use Rattle.oxt_options.specs.Facts.{alias_at, constant_at, is_in};
+ghost use Rattle.oxt_fields.specs.Rules.{rules_in, rules_view};
 ghost use Rattle.oxt_options.specs.Options.{transform_view};
 
 use oxt_options::options::TransformOptions;
@@ -16,6 +15,8 @@ pub struct FieldRules<'a> {
     pub drops_empty: bool,
     /// Whether decorators have their older meaning, and are lowered.
     pub legacy: bool,
+    /// Whether metadata is emitted for what is decorated.
+    pub emits_metadata: bool,
     /// What is known of the source.
     pub plan: &'a Plan,
 }
@@ -23,8 +24,7 @@ pub struct FieldRules<'a> {
 impl<'a> FieldRules<'a> {
     /// The rules under these options, where the plan is that of the source.
     pub fn new(options: &TransformOptions, plan: &'a Plan) -> FieldRules<'a>
-        ensures { rules_view result ≡ rules_of (transform_view options.now)
-            (is_in plan.now.never_written) (constant_at plan.now.inlined) (alias_at plan.now.aliases) }
+        ensures { rules_view result ≡ rules_in (transform_view options.now) plan.now }
     {
         let typescript = &options.typescript;
         FieldRules {
@@ -32,6 +32,7 @@ impl<'a> FieldRules<'a> {
             drops_empty: !typescript.allow_declare_fields
                 || typescript.remove_class_fields_without_initializer,
             legacy: options.decorator.legacy,
+            emits_metadata: options.decorator.emits_metadata(),
             plan,
         }
     }

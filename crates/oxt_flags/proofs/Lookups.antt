@@ -127,7 +127,7 @@ value_found id gs e =
 same_options : (gs : List Given) (m : Module) (e : Option RewriteExtensionsMode)
     → options_for (found_rows gs) m e ≡ options_by (λ name. value_given name gs) (λ name. is_given name gs) m e
 same_options gs m e =
-    rw (value_found (codes "jsx-pragma") gs refl, value_found (codes "jsx-pragma-frag") gs refl, is_used_found (codes "legacy") gs, is_used_found (codes "no-namespaces") gs, is_used_found (codes "no-declare-fields") gs, is_used_found (codes "remove-empty-fields") gs, is_used_found (codes "set-public-class-fields") gs, is_used_found (codes "only-remove-type-imports") gs, is_used_found (codes "optimize-const-enums") gs, is_used_found (codes "optimize-enums") gs) refl
+    rw (value_found (codes "jsx-pragma") gs refl, value_found (codes "jsx-pragma-frag") gs refl, is_used_found (codes "legacy") gs, is_used_found (codes "emit-decorator-metadata") gs, is_used_found (codes "no-strict-null-checks") gs, is_used_found (codes "no-namespaces") gs, is_used_found (codes "no-declare-fields") gs, is_used_found (codes "remove-empty-fields") gs, is_used_found (codes "set-public-class-fields") gs, is_used_found (codes "only-remove-type-imports") gs, is_used_found (codes "optimize-const-enums") gs, is_used_found (codes "optimize-enums") gs) refl
 
 -- the options with what was chosen, if all was
 abbrev with_chosen : (Module → Option RewriteExtensionsMode → TransformData) → Option Text → Option Text → Option TransformData

@@ -27,12 +27,14 @@ alone name = record { name = name; takes_value = false }
 -- all flags
 abbrev pub flags : List FlagData
 flags =
-    with_value (codes "jsx-pragma")
+    alone (codes "emit-decorator-metadata")
+    ∷ with_value (codes "jsx-pragma")
     ∷ with_value (codes "jsx-pragma-frag")
     ∷ alone (codes "legacy")
     ∷ with_value (codes "module")
     ∷ alone (codes "no-declare-fields")
     ∷ alone (codes "no-namespaces")
+    ∷ alone (codes "no-strict-null-checks")
     ∷ alone (codes "only-remove-type-imports")
     ∷ alone (codes "optimize-const-enums")
     ∷ alone (codes "optimize-enums")
@@ -140,7 +142,11 @@ options_by value is_used «module» extensions = record transform_defaults {
     optimize_enums = is_used (codes "optimize-enums");
     rewrite_import_extensions = extensions;
   };
-  decorator = record decorator_defaults { legacy = is_used (codes "legacy") };
+  decorator = record decorator_defaults {
+    legacy = is_used (codes "legacy");
+    emit_decorator_metadata = is_used (codes "emit-decorator-metadata");
+    strict_null_checks = not (is_used (codes "no-strict-null-checks"));
+  };
   «module» = «module»;
   set_public_class_fields = is_used (codes "set-public-class-fields");
 }

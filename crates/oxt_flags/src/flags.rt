@@ -12,6 +12,8 @@ pub struct Flag {
     pub takes_value: bool,
 }
 
+/// The types of what is decorated are emitted.
+pub const EMIT_DECORATOR_METADATA: &str = "emit-decorator-metadata";
 /// The function that makes an element.
 pub const JSX_PRAGMA: &str = "jsx-pragma";
 /// The function that makes a fragment.
@@ -24,6 +26,8 @@ pub const MODULE: &str = "module";
 pub const NO_DECLARE_FIELDS: &str = "no-declare-fields";
 /// Namespaces are not lowered.
 pub const NO_NAMESPACES: &str = "no-namespaces";
+/// Null and undefined do not count in the types that are emitted.
+pub const NO_STRICT_NULL_CHECKS: &str = "no-strict-null-checks";
 /// Only imports that say so themselves are imports of types.
 pub const ONLY_REMOVE_TYPE_IMPORTS: &str = "only-remove-type-imports";
 /// Members of `const` enums are inlined, and such enums dropped.
@@ -42,6 +46,10 @@ pub fn flags() -> &'static [Flag]
     ensures { map flag_view result.now ≡ flags }
 {
     &[
+        Flag {
+            name: EMIT_DECORATOR_METADATA,
+            takes_value: false,
+        },
         Flag {
             name: JSX_PRAGMA,
             takes_value: true,
@@ -64,6 +72,10 @@ pub fn flags() -> &'static [Flag]
         },
         Flag {
             name: NO_NAMESPACES,
+            takes_value: false,
+        },
+        Flag {
+            name: NO_STRICT_NULL_CHECKS,
             takes_value: false,
         },
         Flag {

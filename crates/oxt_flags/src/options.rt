@@ -9,9 +9,9 @@ ghost use Rattle.oxt_tree.specs.Names.{name_bytes};
 
 use crate::choices::{chosen_extensions, chosen_module};
 use crate::flags::{
-    JSX_PRAGMA, JSX_PRAGMA_FRAG, LEGACY, NO_DECLARE_FIELDS, NO_NAMESPACES,
-    ONLY_REMOVE_TYPE_IMPORTS, OPTIMIZE_CONST_ENUMS, OPTIMIZE_ENUMS, REMOVE_EMPTY_FIELDS,
-    SET_PUBLIC_CLASS_FIELDS,
+    EMIT_DECORATOR_METADATA, JSX_PRAGMA, JSX_PRAGMA_FRAG, LEGACY, NO_DECLARE_FIELDS, NO_NAMESPACES,
+    NO_STRICT_NULL_CHECKS, ONLY_REMOVE_TYPE_IMPORTS, OPTIMIZE_CONST_ENUMS, OPTIMIZE_ENUMS,
+    REMOVE_EMPTY_FIELDS, SET_PUBLIC_CLASS_FIELDS,
 };
 use crate::matching::{matched, value_of};
 use clap::ArgMatches;
@@ -85,7 +85,10 @@ fn options_for(
 {
     let mut options = TransformOptions::defaults(alloc)?;
     options.module = module;
-    options.decorator.legacy = is_used(matches, LEGACY);
+    let decorator = &mut options.decorator;
+    decorator.legacy = is_used(matches, LEGACY);
+    decorator.emit_decorator_metadata = is_used(matches, EMIT_DECORATOR_METADATA);
+    decorator.strict_null_checks = !is_used(matches, NO_STRICT_NULL_CHECKS);
     options.set_public_class_fields = is_used(matches, SET_PUBLIC_CLASS_FIELDS);
     let typescript = &mut options.typescript;
     set_text(alloc, matches, JSX_PRAGMA, &mut typescript.jsx_pragma)?;

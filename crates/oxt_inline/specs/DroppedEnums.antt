@@ -1,5 +1,5 @@
 -- The blocks of enums that are dropped.
-use Rattle.std.specs.Prelude.{ℕ, List, [], Bool, false, not, ◌&&◌, if◌then◌else◌, Option, None, Some, slice_get, codes}
+use Rattle.std.specs.Prelude.{ℕ, List, [], Bool, false, not, ◌&&◌, ◌||◌, if◌then◌else◌, Option, None, Some, slice_get, codes}
 use Rattle.oxt_grammar.specs.Places.{same_kind}
 use Rattle.oxt_grammar.specs.declared.kind.Kind.{Kind}
 use Rattle.oxt_grammar.specs.declared.kind.Kind.TheVariants as kind
@@ -46,8 +46,14 @@ blocks s o legacy needs =
 abbrev pub dropped_by : (ℕ → Bool) → Scoped → Doc → TypeScriptData → Bool → List ℕ
 dropped_by needs s d o legacy = all_in (blocks s o legacy needs) d tt
 
--- The blocks that are dropped, by which `import a = ..` are kept: none where members of no enum are inlined, and none of a
+-- a symbol is needed by either
+abbrev pub both_need : (ℕ → Bool) → (ℕ → Bool) → ℕ → Bool
+both_need needs zs n = needs n || zs n
+
+-- The blocks that are dropped, by which `import a = ..` are kept, and which symbols metadata names: none where members of no enum are inlined, and none of a
 -- file of definitions.
-abbrev pub dropped : Scoped → (ℕ → Bool) → Doc → TypeScriptData → Bool → List ℕ
-dropped s ks d o legacy =
-    if optimizes o && not (is_definition_file d) then dropped_by (is_in (needed s ks d o legacy)) s d o legacy else []
+abbrev pub dropped : Scoped → (ℕ → Bool) → (ℕ → Bool) → Doc → TypeScriptData → Bool → List ℕ
+dropped s ks zs d o legacy =
+    if optimizes o && not (is_definition_file d)
+    then dropped_by (both_need (is_in (needed s ks d o legacy)) zs) s d o legacy
+    else []

@@ -1,7 +1,8 @@
 //! The blocks of enums that are dropped.
 ghost use Rattle.std.specs.Prelude.{◌≡◌, ℕ, IfOk, map, option_map};
-ghost use Rattle.oxt_inline.specs.DroppedEnums.{blocks, dropped, dropped_at, dropped_by, goes, inside_of};
+ghost use Rattle.oxt_inline.specs.DroppedEnums.{blocks, both_need, dropped, dropped_at, dropped_by, goes, inside_of};
 ghost use Rattle.oxt_inline.specs.Needed.{needed, number_of};
+ghost use Rattle.oxt_metadata.specs.Symbols.{is_in as is_named_in};
 ghost use Rattle.oxt_options.specs.Facts.{is_in};
 ghost use Rattle.oxt_options.specs.Lists.{numbers_in};
 ghost use Rattle.oxt_options.specs.Options.{typescript_view};
@@ -14,6 +15,7 @@ use indexmap::IndexSet;
 use oxt_grammar::field::Field;
 use oxt_grammar::holds::Row;
 use oxt_grammar::kind::Kind;
+use oxt_metadata::symbols::NamedSymbols;
 use oxt_modules::nodes::NodeList;
 use oxt_names::ids::SymbolId;
 use oxt_options::TypeScriptOptions;
@@ -28,7 +30,8 @@ use std::alloc::Global;
 /// The blocks, in the order of the text, of the enums that are dropped: members of the enum are inlined, no block of it is
 /// exported or ambient, no declaration of another kind emits code under its name, each of its members is constant and
 /// none is named by a template, and no use of it as a value is left. One in an `import a = ..` is left where that is
-/// `kept`, and under `legacy` one in the decorators of a field with `declare`. `scoping` is the table of the program.
+/// `kept`, under `legacy` one in the decorators of a field with `declare`, and so is what metadata names. `scoping` is the table
+/// of the program.
 ///
 /// # Errors
 ///
@@ -38,15 +41,16 @@ pub fn dropped_blocks(
     program: &Node,
     scoping: &Scoping,
     kept: &NodeList,
+    named: &NamedSymbols,
     options: &TypeScriptOptions,
     legacy: bool,
 ) -> Result<Vec<NodeId>, OutOfMemory>
-    ensures { IfOk result (λ nodes. numbers_in nodes.items
-        ≡ dropped scoping.now (is_in kept.now) (node_doc program.now) (typescript_view options.now) legacy) }
+    ensures { IfOk result (λ nodes. numbers_in nodes.items ≡ dropped scoping.now (is_in kept.now) (is_named_in named.now)
+        (node_doc program.now) (typescript_view options.now) legacy) }
 {
     if optimizes(options) && !program.is_definition_file() {
         let needed = needed_set(alloc, program, scoping, kept, options, legacy)?;
-        dropped_by(alloc, program, scoping, options, legacy, &needed)
+        dropped_by(alloc, program, scoping, options, legacy, &needed, named)
     } else {
         Ok(Vec::new(alloc))
     }
@@ -84,15 +88,17 @@ fn dropped_by(
     options: &TypeScriptOptions,
     legacy: bool,
     needed: &IndexSet<u64>,
+    named: &NamedSymbols,
 ) -> Result<Vec<NodeId>, OutOfMemory>
-    ensures { IfOk result (λ nodes. numbers_in nodes.items
-        ≡ dropped_by (is_in needed.now.keys) scoping.now (node_doc program.now) (typescript_view options.now) legacy) }
+    ensures { IfOk result (λ nodes. numbers_in nodes.items ≡ dropped_by (both_need (is_in needed.now.keys) (is_named_in named.now))
+        scoping.now (node_doc program.now) (typescript_view options.now) legacy) }
 {
     let search = Blocks {
         scoping,
         options,
         legacy,
         needed,
+        named,
     };
     all_in(alloc, &search, program, ())
 }
@@ -104,6 +110,7 @@ struct Blocks<'a> {
     options: &'a TypeScriptOptions,
     legacy: bool,
     needed: &'a IndexSet<u64>,
+    named: &'a NamedSymbols,
 }
 
 impl<'a> Search for Blocks<'a> {
@@ -115,7 +122,7 @@ impl<'a> Search for Blocks<'a> {
 
     ghost view = { λ node. node.0 };
 
-    ghost sought = { λ b. blocks b.scoping.now (typescript_view b.options.now) b.legacy (is_in b.needed.now.keys) };
+    ghost sought = { λ b. blocks b.scoping.now (typescript_view b.options.now) b.legacy (both_need (is_in b.needed.now.keys) (is_named_in b.named.now)) };
 
     fn visit(&self, node: &Node, _state: ()) -> Visit<NodeId, ()> {
         Visit {
@@ -144,8 +151,8 @@ impl<'a> Blocks<'a> {
     /// The node, if it is such a block.
     fn dropped_at(&self, node: &Node) -> Option<NodeId>
         ensures { option_map (λ node. node.0) result ≡ dropped_at self.now.scoping.now
-            (typescript_view self.now.options.now) (is_in self.now.needed.now.keys) node.now.kind node.now.id.0
-            (docs_in node.now.parts.items) }
+            (typescript_view self.now.options.now) (both_need (is_in self.now.needed.now.keys) (is_named_in self.now.named.now))
+            node.now.kind node.now.id.0 (docs_in node.now.parts.items) }
     {
         if node.kind.is(Kind::TSEnumDeclaration)
             && self.goes(named_symbol(self.scoping, node.field(Field::Id)))
@@ -159,13 +166,13 @@ impl<'a> Blocks<'a> {
     /// Whether the enum of that symbol is dropped.
     fn goes(&self, symbol: Option<SymbolId>) -> bool
         ensures { result ≡ goes self.now.scoping.now (typescript_view self.now.options.now)
-            (is_in self.now.needed.now.keys) symbol }
+            (both_need (is_in self.now.needed.now.keys) (is_named_in self.now.named.now)) symbol }
     {
         match symbol {
             Some(symbol) => {
                 self.scoping.has_symbol(symbol)
                     && is_optimized(self.scoping, self.options, symbol)
-                    && !self.needed.contains(&symbol.0)
+                    && !(self.needed.contains(&symbol.0) || self.named.has(symbol))
             }
             None => false,
         }

@@ -1,15 +1,17 @@
 -- The specifiers of imports and exports, and the declarations `import a = ..`, that are kept.
 use Rattle.std.specs.Prelude.{ℕ, List, [], ◌∷◌, ◌++◌, Bool, true, false, not, ◌&&◌, ◌||◌, if◌then◌else◌, Option, None, Some, codes}
+use Rattle.oxt_metadata.specs.Symbols.{is_in, is_named}
 use Rattle.oxt_modules.specs.Aliases.{aliases}
 use Rattle.oxt_modules.specs.Jsx.{is_jsx_text, jsx_use}
 use Rattle.oxt_modules.specs.Marked.{beside, marked}
 use Rattle.oxt_modules.specs.Names.{is_declared_again, is_name_kept, is_used}
 use Rattle.oxt_modules.specs.declared.alias.Alias.{Alias}
 use Rattle.oxt_modules.specs.declared.jsx.JsxUse.{JsxUse}
+use Rattle.oxt_modules.specs.declared.kept.OtherUses.{OtherUses}
 use Rattle.oxt_modules.specs.declared.kept.Place.{Place}
 use Rattle.oxt_modules.specs.declared.kept.Place.TheVariants as place
 use Rattle.oxt_options.specs.Options.{TypeScriptData}
-use Rattle.oxt_scoping.specs.Scoped.{Scoped}
+use Rattle.oxt_scoping.specs.Scoped.{Scoped, at_node}
 use Rattle.oxt_grammar.specs.Places.{same_kind}
 use Rattle.oxt_grammar.specs.declared.kind.Kind.{Kind}
 use Rattle.oxt_grammar.specs.declared.kind.Kind.TheVariants as kind
@@ -17,15 +19,29 @@ use Rattle.oxt_tree.specs.Doc.{Doc, text, node, Docs, no_docs, doc}
 use Rattle.oxt_tree.specs.Fields.{elements, field_of, named}
 use Rattle.oxt_tree.specs.Syntax.{is_type_only}
 
+-- how a program uses names beside its references: what it has of JSX, and which symbols metadata names
+pub record Uses : Type 0 where
+  pub jsx : JsxUse
+  pub named : ℕ → Bool
+
+-- as the program has it
+abbrev pub uses_view : OtherUses → Uses
+uses_view u = record { jsx = u.jsx; named = is_in u.named.now }
+
+-- metadata names the symbol that the node of that number declares
+abbrev pub is_named_there : Scoped → Uses → ℕ → Bool
+is_named_there s u i = is_named u.named (at_node (record { 0 = i }) s.declared)
+
 -- the number, where that is so
 abbrev pub kept_if : Bool → ℕ → List ℕ
 kept_if b i = if b then i ∷ [] else []
 
 -- Where unused imports are not kept, an import of that name is kept if no other declaration of the name is
--- more than a type, and if a value use means it or JSX uses the name.
-abbrev pub is_local_kept : Scoped → TypeScriptData → JsxUse → Doc → Bool
+-- more than a type, and if a value use means it, metadata names it, or JSX uses the name.
+abbrev pub is_local_kept : Scoped → TypeScriptData → Uses → Doc → Bool
 is_local_kept s o u (node k i b e ds) =
-    not (is_declared_again s i) && (is_used s i || is_jsx_text o u (named (codes "name") k ds))
+    not (is_declared_again s i)
+    && (is_used s i || (is_named_there s u i || is_jsx_text o u.jsx (named (codes "name") k ds)))
 is_local_kept s o u d = false
 
 -- An export of the text is kept unless the program declares it, and no declaration of it emits code.
@@ -39,18 +55,18 @@ is_spelling_kept s (node k i b e ds) = is_text_kept s (named (codes "name") k ds
 is_spelling_kept s d = true
 
 -- a specifier with that local name, which does not say that it is of a type, is kept at that place
-abbrev pub is_kept : Scoped → TypeScriptData → JsxUse → Place → Doc → Bool
+abbrev pub is_kept : Scoped → TypeScriptData → Uses → Place → Doc → Bool
 is_kept s o u place.Import d = o.only_remove_type_imports || is_local_kept s o u d
 is_kept s o u place.Export d = is_spelling_kept s d
 is_kept s o u place.ExportFrom d = true
 
 -- the number of the specifier at that place, if it is kept
-abbrev pub kept_specifier : Scoped → TypeScriptData → JsxUse → Place → Doc → List ℕ
+abbrev pub kept_specifier : Scoped → TypeScriptData → Uses → Place → Doc → List ℕ
 kept_specifier s o u p (node k i b e ds) = kept_if (not (is_type_only k ds) && is_kept s o u p (named (codes "local") k ds)) i
 kept_specifier s o u p d = []
 
 -- those of a list of specifiers
-abbrev pub kept_in_list : Scoped → TypeScriptData → JsxUse → Place → Docs → List ℕ
+abbrev pub kept_in_list : Scoped → TypeScriptData → Uses → Place → Docs → List ℕ
 kept_in_list s o u p no_docs = []
 kept_in_list s o u p (doc d ds) = kept_specifier s o u p d ++ kept_in_list s o u p ds
 
@@ -76,17 +92,17 @@ place_of k =
     else None
 
 -- what is kept of a statement that is not of types alone
-abbrev pub kept_at : Scoped → TypeScriptData → JsxUse → Option Place → Kind → Docs → List ℕ
+abbrev pub kept_at : Scoped → TypeScriptData → Uses → Option Place → Kind → Docs → List ℕ
 kept_at s o u None k ds = kept_default s k ds
 kept_at s o u (Some p) k ds = kept_in_list s o u p (elements (named (codes "specifiers") k ds))
 
 -- what is kept of a statement
-abbrev pub kept_in_statement : Scoped → TypeScriptData → JsxUse → Doc → List ℕ
+abbrev pub kept_in_statement : Scoped → TypeScriptData → Uses → Doc → List ℕ
 kept_in_statement s o u (node k i b e ds) = if is_type_only k ds then [] else kept_at s o u (place_of k) k ds
 kept_in_statement s o u d = []
 
 -- what is kept of the statements
-abbrev pub kept_in_statements : Scoped → TypeScriptData → JsxUse → Docs → List ℕ
+abbrev pub kept_in_statements : Scoped → TypeScriptData → Uses → Docs → List ℕ
 kept_in_statements s o u no_docs = []
 kept_in_statements s o u (doc d ds) = kept_in_statement s o u d ++ kept_in_statements s o u ds
 
@@ -100,10 +116,13 @@ kept_aliases s o [] = []
 kept_aliases s o (a ∷ xs) = kept_if (is_alias_kept s o a) a.node.0 ++ kept_aliases s o xs
 
 -- what is kept of a program, of which that is the table; the flag says whether decorators have their older meaning
-abbrev pub kept_by : Scoped → Doc → TypeScriptData → Bool → List ℕ
-kept_by s d o legacy = kept_in_statements s o (jsx_use legacy d) (elements (field_of (codes "body") d)) ++ kept_aliases s o (aliases d)
+abbrev pub kept_by : Scoped → (ℕ → Bool) → Doc → TypeScriptData → Bool → List ℕ
+kept_by s zs d o legacy =
+    kept_in_statements s o (record { jsx = jsx_use legacy d; named = zs }) (elements (field_of (codes "body") d))
+    ++ kept_aliases s o (aliases d)
 
 -- What is kept of a program: specifiers, names that are exported by default, and declarations `import a = ..`. Names in the
--- right sides of those that nothing uses are no uses themselves.
-abbrev pub kept : Scoped → Doc → TypeScriptData → Bool → List ℕ
-kept s d o legacy = kept_by (beside (marked s d o) s) d o legacy
+-- right sides of those that nothing uses are no uses themselves. Symbols that metadata names are used, but too late to keep an
+-- `import a = ..`.
+abbrev pub kept : Scoped → (ℕ → Bool) → Doc → TypeScriptData → Bool → List ℕ
+kept s zs d o legacy = kept_by (beside (marked s d o) s) zs d o legacy

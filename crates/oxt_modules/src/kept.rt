@@ -1,6 +1,7 @@
 //! The specifiers, and the declarations `import a = ..`, that are kept.
 ghost use Rattle.std.specs.Prelude.{◌≡◌, ◌++◌, IfOk, OnOk, codes};
-ghost use Rattle.oxt_modules.specs.Kept.{exported_name, is_alias_kept, is_kept, is_local_kept, is_reference_kept, is_spelling_kept, is_text_kept, kept, kept_aliases, kept_by, kept_default, kept_if, kept_in_list, kept_in_statement, kept_in_statements, kept_specifier, place_of};
+ghost use Rattle.oxt_metadata.specs.Symbols.{is_in};
+ghost use Rattle.oxt_modules.specs.Kept.{exported_name, is_alias_kept, is_kept, is_local_kept, is_named_there, is_reference_kept, is_spelling_kept, is_text_kept, kept, kept_aliases, kept_by, kept_default, kept_if, kept_in_list, kept_in_statement, kept_in_statements, kept_specifier, place_of, uses_view};
 ghost use Rattle.oxt_modules.specs.Jsx.{is_jsx_text};
 ghost use Rattle.oxt_modules.specs.Symbols.{IsAnswered, table_of};
 ghost use Rattle.oxt_options.specs.Options.{typescript_view};
@@ -16,6 +17,7 @@ use crate::nodes::NodeList;
 use crate::symbols::Symbols;
 use oxt_grammar::field::Field;
 use oxt_grammar::kind::Kind;
+use oxt_metadata::symbols::NamedSymbols;
 use oxt_options::TypeScriptOptions;
 use oxt_scoping::scoping::Scoping;
 use oxt_tree::ids::{NodeId, OutOfMemory};
@@ -33,9 +35,19 @@ pub enum Place {
     ExportFrom,
 }
 
+/// How a program uses names beside its references.
+#[derive(Clone, Copy)]
+struct OtherUses<'a> {
+    /// What it has of JSX.
+    jsx: JsxUse,
+    /// The symbols that metadata names.
+    named: &'a NamedSymbols,
+}
+
 /// The numbers of the import and export specifiers that are kept, in the order of the text, with those of the names that
 /// `export default` exports and keeps, and behind them those of the declarations `import a = ..` that are kept. `scoping`
-/// is the table of the program, and `legacy` says whether decorators have TypeScript's older meaning.
+/// is the table of the program, `named` has the symbols that metadata names as values, and `legacy` says whether decorators have
+/// TypeScript's older meaning. What metadata names comes too late to keep an `import a = ..`.
 ///
 /// # Errors
 ///
@@ -44,15 +56,16 @@ pub fn kept_nodes(
     alloc: Global,
     program: &Node,
     scoping: &Scoping,
+    named: &NamedSymbols,
     options: &TypeScriptOptions,
     legacy: bool,
 ) -> Result<NodeList, OutOfMemory>
     ensures { IfOk result (λ nodes. nodes
-        ≡ kept scoping.now (node_doc program.now) (typescript_view options.now) legacy) }
+        ≡ kept scoping.now (is_in named.now) (node_doc program.now) (typescript_view options.now) legacy) }
 {
     let marked = marked_names(alloc, program, scoping, options)?;
     let symbols = Symbols::of(alloc, scoping, marked)?;
-    let nodes = kept_by(alloc, program, &symbols, options, legacy)?;
+    let nodes = kept_by(alloc, program, &symbols, named, options, legacy)?;
     NodeList::of(alloc, nodes)
 }
 
@@ -61,17 +74,21 @@ fn kept_by(
     alloc: Global,
     program: &Node,
     symbols: &Symbols,
+    named: &NamedSymbols,
     options: &TypeScriptOptions,
     legacy: bool,
 ) -> Result<Vec<NodeId>, OutOfMemory>
     requires { IsAnswered symbols.now }
     ensures { IfOk result (λ nodes. numbers_in nodes.items
-        ≡ kept_by (table_of symbols.now) (node_doc program.now) (typescript_view options.now) legacy) }
+        ≡ kept_by (table_of symbols.now) (is_in named.now) (node_doc program.now) (typescript_view options.now) legacy) }
 {
-    let jsx = jsx_use(alloc, program, legacy)?;
+    let uses = OtherUses {
+        jsx: jsx_use(alloc, program, legacy)?,
+        named,
+    };
     let aliases = aliases_of(alloc, program)?;
     let mut out = Vec::new(alloc);
-    push_statements(symbols, options, jsx, program.list(Field::Body), &mut out)?;
+    push_statements(symbols, options, uses, program.list(Field::Body), &mut out)?;
     push_aliases(symbols, options, aliases.as_slice(), &mut out)?;
     Ok(out)
 }
@@ -107,16 +124,16 @@ fn is_alias_kept(symbols: &Symbols, options: &TypeScriptOptions, alias: Alias) -
 fn push_statements(
     symbols: &Symbols,
     options: &TypeScriptOptions,
-    jsx: JsxUse,
+    uses: OtherUses,
     parts: &[Part],
     out: &mut Vec<NodeId>,
 ) -> Result<(), OutOfMemory>
     requires { IsAnswered symbols.now }
     ensures { OnOk result (numbers_in out.new.items ≡ numbers_in out.old.items
-        ++ kept_in_statements (table_of symbols.now) (typescript_view options.now) jsx (docs_in parts.now)) }
+        ++ kept_in_statements (table_of symbols.now) (typescript_view options.now) (uses_view uses.entry) (docs_in parts.now)) }
 {
     for part in parts {
-        push_part(symbols, options, jsx, part, out)?;
+        push_part(symbols, options, uses, part, out)?;
     }
     Ok(())
 }
@@ -125,16 +142,16 @@ fn push_statements(
 fn push_part(
     symbols: &Symbols,
     options: &TypeScriptOptions,
-    jsx: JsxUse,
+    uses: OtherUses,
     part: &Part,
     out: &mut Vec<NodeId>,
 ) -> Result<(), OutOfMemory>
     requires { IsAnswered symbols.now }
     ensures { OnOk result (numbers_in out.new.items ≡ numbers_in out.old.items
-        ++ kept_in_statement (table_of symbols.now) (typescript_view options.now) jsx (part_doc part.now)) }
+        ++ kept_in_statement (table_of symbols.now) (typescript_view options.now) (uses_view uses.entry) (part_doc part.now)) }
 {
     match part {
-        Part::Node(node) => push_statement(symbols, options, jsx, node, out),
+        Part::Node(node) => push_statement(symbols, options, uses, node, out),
         _ => Ok(()),
     }
 }
@@ -143,13 +160,13 @@ fn push_part(
 fn push_statement(
     symbols: &Symbols,
     options: &TypeScriptOptions,
-    jsx: JsxUse,
+    uses: OtherUses,
     node: &Node,
     out: &mut Vec<NodeId>,
 ) -> Result<(), OutOfMemory>
     requires { IsAnswered symbols.now }
     ensures { OnOk result (numbers_in out.new.items ≡ numbers_in out.old.items
-        ++ kept_in_statement (table_of symbols.now) (typescript_view options.now) jsx (node_doc node.now)) }
+        ++ kept_in_statement (table_of symbols.now) (typescript_view options.now) (uses_view uses.entry) (node_doc node.now)) }
 {
     if node.is_type_only() {
         return Ok(());
@@ -157,7 +174,7 @@ fn push_statement(
     match place_of(node.kind) {
         Some(place) => {
             let parts = node.list(Field::Specifiers);
-            push_specifiers(symbols, options, jsx, place, parts, out)
+            push_specifiers(symbols, options, uses, place, parts, out)
         }
         None => push_default(symbols, node, out),
     }
@@ -183,17 +200,17 @@ fn place_of(kind: Kind) -> Option<Place>
 fn push_specifiers(
     symbols: &Symbols,
     options: &TypeScriptOptions,
-    jsx: JsxUse,
+    uses: OtherUses,
     place: Place,
     parts: &[Part],
     out: &mut Vec<NodeId>,
 ) -> Result<(), OutOfMemory>
     requires { IsAnswered symbols.now }
     ensures { OnOk result (numbers_in out.new.items ≡ numbers_in out.old.items
-        ++ kept_in_list (table_of symbols.now) (typescript_view options.now) jsx place (docs_in parts.now)) }
+        ++ kept_in_list (table_of symbols.now) (typescript_view options.now) (uses_view uses.entry) place (docs_in parts.now)) }
 {
     for part in parts {
-        push_specifier(symbols, options, jsx, place, part, out)?;
+        push_specifier(symbols, options, uses, place, part, out)?;
     }
     Ok(())
 }
@@ -202,18 +219,18 @@ fn push_specifiers(
 fn push_specifier(
     symbols: &Symbols,
     options: &TypeScriptOptions,
-    jsx: JsxUse,
+    uses: OtherUses,
     place: Place,
     part: &Part,
     out: &mut Vec<NodeId>,
 ) -> Result<(), OutOfMemory>
     requires { IsAnswered symbols.now }
     ensures { OnOk result (numbers_in out.new.items ≡ numbers_in out.old.items
-        ++ kept_specifier (table_of symbols.now) (typescript_view options.now) jsx place (part_doc part.now)) }
+        ++ kept_specifier (table_of symbols.now) (typescript_view options.now) (uses_view uses.entry) place (part_doc part.now)) }
 {
     match part {
         Part::Node(node) => {
-            let is_kept = !node.is_type_only() && is_kept(symbols, options, jsx, place, node);
+            let is_kept = !node.is_type_only() && is_kept(symbols, options, uses, place, node);
             push_if(is_kept, node.id, out)
         }
         _ => Ok(()),
@@ -236,18 +253,18 @@ fn push_if(is_kept: bool, id: NodeId, out: &mut Vec<NodeId>) -> Result<(), OutOf
 fn is_kept(
     symbols: &Symbols,
     options: &TypeScriptOptions,
-    jsx: JsxUse,
+    uses: OtherUses,
     place: Place,
     node: &Node,
 ) -> bool
     requires { IsAnswered symbols.now }
-    ensures { result ≡ is_kept (table_of symbols.now) (typescript_view options.now) jsx place
+    ensures { result ≡ is_kept (table_of symbols.now) (typescript_view options.now) (uses_view uses.entry) place
         (named (codes "local") node.now.kind (docs_in node.now.parts.items)) }
 {
     match place {
         Place::Import => {
             options.only_remove_type_imports
-                || is_local_kept(symbols, options, jsx, node.field(Field::Local))
+                || is_local_kept(symbols, options, uses, node.field(Field::Local))
         }
         Place::Export => is_spelling_kept(symbols, node.field(Field::Local)),
         Place::ExportFrom => true,
@@ -258,25 +275,41 @@ fn is_kept(
 fn is_local_kept(
     symbols: &Symbols,
     options: &TypeScriptOptions,
-    jsx: JsxUse,
+    uses: OtherUses,
     local: Option<&Part>,
 ) -> bool
     requires { IsAnswered symbols.now }
-    ensures { result ≡ is_local_kept (table_of symbols.now) (typescript_view options.now) jsx (doc_or_nil local.entry) }
+    ensures { result ≡ is_local_kept (table_of symbols.now) (typescript_view options.now) (uses_view uses.entry) (doc_or_nil local.entry) }
 {
     match local {
-        Some(Part::Node(node)) => is_binding_kept(symbols, options, jsx, node),
+        Some(Part::Node(node)) => is_binding_kept(symbols, options, uses, node),
         _ => false,
     }
 }
 
 /// Whether an import that binds the name of that node is kept, if unused imports are not.
-fn is_binding_kept(symbols: &Symbols, options: &TypeScriptOptions, jsx: JsxUse, node: &Node) -> bool
+fn is_binding_kept(
+    symbols: &Symbols,
+    options: &TypeScriptOptions,
+    uses: OtherUses,
+    node: &Node,
+) -> bool
     requires { IsAnswered symbols.now }
-    ensures { result ≡ is_local_kept (table_of symbols.now) (typescript_view options.now) jsx (node_doc node.now) }
+    ensures { result ≡ is_local_kept (table_of symbols.now) (typescript_view options.now) (uses_view uses.entry) (node_doc node.now) }
 {
     !is_declared_again(symbols, node.id)
-        && (is_used(symbols, node.id) || is_jsx_binding(options, jsx, node))
+        && (is_used(symbols, node.id)
+            || (is_named_there(symbols, uses, node.id) || is_jsx_binding(options, uses.jsx, node)))
+}
+
+/// Whether metadata names the symbol that the node declares.
+fn is_named_there(symbols: &Symbols, uses: OtherUses, node: NodeId) -> bool
+    ensures { result ≡ is_named_there (table_of symbols.now) (uses_view uses.entry) node.0 }
+{
+    match symbols.scoping.symbol_of(node) {
+        Some(symbol) => uses.named.has(symbol),
+        None => false,
+    }
 }
 
 /// Whether elements or fragments use the name of that node.

@@ -1,2 +1,4 @@
 mod Dots
+pub mod Inserts
+mod Made
 mod Tables

@@ -1,13 +1,18 @@
 -- Tables of constants, as contracts see them.
 use denote.Ref.{Bor}
-use Rattle.std.proofs.Common.{◌≡◌, refl, sym, ap, ◌∙◌, ℕ, List, [], ◌∷◌, Bool, true, false, cond, nat_eq, Option, None, Some, option_map}
+use Rattle.std.proofs.Common.{◌≡◌, refl, sym, ap, ◌∙◌, ℕ, ◌+◌, ◌<◌, ◌≤◌, List, [], ◌∷◌, length, drop, get_or, Bool, true, false, cond, nat_eq, Option, None, Some, option_map, add-one, drop-cons, arith}
 use Rattle.std.specs.Map.{lookup, update, update_all}
 use Rattle.std.specs.Option.{option_copied, option_or}
+use Rattle.indexmap.specs.IndexMap.{insert_entry}
+use Rattle.oxt_options.proofs.Inserts.{inserted}
 use Rattle.oxt_options.specs.Facts.{alias_at, constant_at, last_alias, last_constant}
-use Rattle.oxt_options.specs.Lists.{by_number, constants_in, pairs_in}
+use Rattle.oxt_options.specs.Lists.{by_number, constants_in, types_in}
+use Rattle.oxt_options.specs.Metadata.{last_type, type_at}
 use Rattle.oxt_options.specs.Seen.{constants_of}
 use Rattle.oxt_names.specs.Constant.{Constant, constant_view}
 use Rattle.oxt_names.specs.declared.constant.ConstantValue.{ConstantValue}
+use Rattle.oxt_options.specs.declared.metadata.MetadataType.{MetadataType}
+use Rattle.oxt_tree.proofs.Lists.{drop_end}
 use Rattle.oxt_tree.specs.declared.ids.NodeId.{NodeId}
 
 -- a look-up among views is the view of the look-up
@@ -71,5 +76,43 @@ pub aliases_put : (cs : List (ℕ × ℕ)) (es : List (ℕ × ℕ))
     → ((n : ℕ) → lookup (nat_eq n) es ≡ update_all nat_eq (λ _. None) cs n)
     → (n : ℕ) → alias_at es n ≡ last_alias cs n
 aliases_put cs es put n = put n ∙ aliases_over cs (λ _. None) n ∙ no_alias (last_alias cs n)
+
+-- what was put of the types, with what is left of them, says what all of them say
+abbrev pub IsPut : List (NodeId × MetadataType) → List (ℕ × MetadataType) → List (NodeId × MetadataType) → Type 0
+IsPut all es left = (n : ℕ) → last_type (types_in all) n ≡ option_or (last_type (types_in left) n) (type_at es n)
+
+same_test : (k n : ℕ) → nat_eq k n ≡ nat_eq n k
+same_test k n = grind arith
+
+-- one more type over those that stood
+type_over : (left : Option MetadataType) (es : List (ℕ × MetadataType)) (k n : ℕ) (v : MetadataType)
+    → option_or (option_or left (cond (nat_eq k n) (Some v) None)) (type_at es n) ≡ option_or left (type_at (insert_entry nat_eq es k v) n)
+type_over (Some w) es k n v = refl
+type_over None es k n v = by (nat_eq k n) ∙ ap (λ b. cond b (Some v) (type_at es n)) (same_test k n) ∙ sym (inserted es k v n)
+  where
+    by : (b : Bool) → option_or (cond b (Some v) None) (type_at es n) ≡ cond b (Some v) (type_at es n)
+    by true = refl
+    by false = refl
+
+no_type : (o : Option MetadataType) → o ≡ option_or o None
+no_type (Some w) = refl
+no_type None = refl
+
+pub none_put : (ts : List (NodeId × MetadataType)) → IsPut ts [] ts
+none_put ts n = no_type (last_type (types_in ts) n)
+
+pub one_put : (all ts : List (NodeId × MetadataType)) (i : ℕ) (other : NodeId × MetadataType) (es es' : List (ℕ × MetadataType)) → i < length ts
+    → es' ≡ insert_entry nat_eq es (get_or ts i other).0.0 (get_or ts i other).1 → IsPut all es (drop i ts) → IsPut all es' (drop (i + 1) ts)
+one_put all ts i other es es' within is so_far n =
+    let here : drop i ts ≡ get_or ts i other ∷ drop (i + 1) ts = rw add-one (drop-cons ts i other within) in
+    so_far n ∙ ap (λ us. option_or (last_type (types_in us) n) (type_at es n)) here
+    ∙ type_over (last_type (types_in (drop (i + 1) ts)) n) es (get_or ts i other).0.0 n (get_or ts i other).1
+    ∙ ap (λ fs. option_or (last_type (types_in (drop (i + 1) ts)) n) (type_at fs n)) (sym is)
+
+pub each_put : (all ts : List (NodeId × MetadataType)) (i : ℕ) (es : List (ℕ × MetadataType)) → length ts ≤ i → IsPut all es (drop i ts)
+    → (n : ℕ) → type_at es n ≡ last_type (types_in all) n
+each_put all ts i es past so_far n = sym (so_far n ∙ ap (λ us. option_or (last_type (types_in us) n) (type_at es n)) (drop_end ts i past))
+
+pub ruleset put_by_one = (none_put, one_put, each_put)
 
 pub ruleset put_in_turn = (all_put, aliases_put)

@@ -2,6 +2,7 @@
 use Rattle.std.specs.Prelude.{ℕ, List, map}
 use Rattle.oxt_options.specs.Facts.{Facts}
 use Rattle.oxt_options.specs.declared.lists.PlanLists.{PlanLists}
+use Rattle.oxt_options.specs.declared.metadata.MetadataType.{MetadataType}
 use Rattle.oxt_names.specs.Constant.{Constant, constant_view}
 use Rattle.oxt_names.specs.declared.constant.ConstantValue.{ConstantValue}
 use Rattle.oxt_tree.specs.declared.ids.NodeId.{NodeId}
@@ -22,6 +23,10 @@ constants_in cs = map (λ c. (c.0.0, constant_view c.1)) cs
 abbrev pub pairs_in : List (NodeId × NodeId) → List (ℕ × ℕ)
 pairs_in cs = map (λ c. (c.0.0, c.1.0)) cs
 
+-- the annotations with what is written for them, by number
+abbrev pub types_in : List (NodeId × MetadataType) → List (ℕ × MetadataType)
+types_in ts = map (λ t. (t.0.0, t.1)) ts
+
 -- the lists by number
 abbrev pub facts_in : PlanLists → Facts
 facts_in l =
@@ -32,4 +37,6 @@ facts_in l =
       inlined = constants_in l.inlined.items;
       never_written = numbers_in l.never_written.items;
       aliases = pairs_in l.aliases.items;
+      metadata = types_in l.metadata.items;
+      written = pairs_in l.written.items;
     }

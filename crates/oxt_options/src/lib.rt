@@ -2,11 +2,13 @@
 #![tactic(auto)]
 
 pub mod lists;
+pub mod metadata;
 pub mod options;
 pub mod plan;
 pub mod rewrite;
 pub mod state;
 
+pub use metadata::{GlobalName, MetadataType};
 pub use options::{DecoratorOptions, Module, TransformOptions, TypeScriptOptions};
 pub use rewrite::{RewriteExtensionsMode, parse_rewrite_import_extensions};
 pub use state::TransformState;

@@ -3,6 +3,7 @@ ghost use Rattle.std.specs.Prelude.{◌≡◌};
 ghost use Rattle.oxt_options.specs.Facts.{no_facts};
 ghost use Rattle.oxt_options.specs.Lists.{facts_in};
 
+use crate::metadata::MetadataType;
 use oxt_names::constant::ConstantValue;
 use oxt_tree::ids::NodeId;
 use std::alloc::Global;
@@ -22,6 +23,10 @@ pub struct PlanLists {
     pub never_written: Vec<NodeId>,
     /// References that are read as the alias of a decorated class, with the class.
     pub aliases: Vec<(NodeId, NodeId)>,
+    /// Type annotations of which metadata tells, with what it writes for them.
+    pub metadata: Vec<(NodeId, MetadataType)>,
+    /// The first names of the dotted names that it writes, with the class whose metadata that is.
+    pub written: Vec<(NodeId, NodeId)>,
 }
 
 impl PlanLists {
@@ -36,6 +41,8 @@ impl PlanLists {
             inlined: Vec::new(alloc),
             never_written: Vec::new(alloc),
             aliases: Vec::new(alloc),
+            metadata: Vec::new(alloc),
+            written: Vec::new(alloc),
         }
     }
 }

@@ -1,5 +1,6 @@
 //! The options of the whole lowering, and those that a run without flags has.
 ghost use Rattle.std.specs.Prelude.{◌≡◌, IfOk};
+ghost use Rattle.oxt_options.specs.Metadata.{emits_metadata};
 ghost use Rattle.oxt_options.specs.Options.{decorator_defaults, transform_defaults, transform_view, typescript_defaults, typescript_view};
 
 use crate::rewrite::RewriteExtensionsMode;
@@ -108,5 +109,12 @@ impl DecoratorOptions {
             emit_decorator_metadata: false,
             strict_null_checks: true,
         }
+    }
+
+    /// Whether metadata is emitted: it is asked for, and decorators have their older meaning.
+    pub fn emits_metadata(self) -> bool
+        ensures { result ≡ emits_metadata self }
+    {
+        self.legacy && self.emit_decorator_metadata
     }
 }

@@ -1,16 +1,20 @@
 //! The plan: what the passes ask of nodes of the source, by their numbers.
 ghost use Rattle.std.specs.Prelude.{◌≡◌, ℕ, IfOk, None, OnErr, OnOk, nat_eq, option_map};
 ghost use Rattle.std.specs.Map.{lookup, update_all};
+ghost use Rattle.indexmap.specs.IndexMap.{insert_entry};
 ghost use Rattle.oxt_names.specs.Constant.{constant_view};
-ghost use Rattle.oxt_options.specs.Facts.{Answers, alias_at, constant_at, is_in, last_alias, no_facts};
-ghost use Rattle.oxt_options.specs.Lists.{by_number, facts_in, numbers_in, pairs_in};
+ghost use Rattle.oxt_options.specs.Facts.{Answers, HasTables, SameNodes, alias_at, constant_at, is_in, last_alias, last_constant, no_facts};
+ghost use Rattle.oxt_options.specs.Lists.{by_number, constants_in, facts_in, numbers_in, pairs_in, types_in};
+ghost use Rattle.oxt_options.specs.Metadata.{last_type, type_at};
 
 use crate::lists::PlanLists;
+use crate::metadata::MetadataType;
 use indexmap::{IndexMap, IndexSet};
 use oxt_names::constant::ConstantValue;
 use oxt_tree::ids::{NodeId, OutOfMemory};
 use std::alloc::Global;
 use std::marker::Model;
+use std::mem;
 
 /// What the check of a program found out about nodes of the source.
 #[derive(Drop)]
@@ -21,6 +25,8 @@ pub struct Plan {
     inlined: IndexMap<u64, ConstantValue>,
     never_written: IndexSet<u64>,
     aliases: IndexMap<u64, u64>,
+    metadata: IndexMap<u64, MetadataType>,
+    written: IndexMap<u64, u64>,
 }
 
 impl Model for Plan {
@@ -29,7 +35,7 @@ impl Model for Plan {
 
     ghost Value = { Facts };
 
-    ghost view = { λ p. record { kept = p.kept.keys; first = p.first.keys; dropped = p.dropped.keys; inlined = constants_of p.inlined.entries; never_written = p.never_written.keys; aliases = p.aliases.entries } };
+    ghost view = { λ p. record { kept = p.kept.keys; first = p.first.keys; dropped = p.dropped.keys; inlined = constants_of p.inlined.entries; never_written = p.never_written.keys; aliases = p.aliases.entries; metadata = p.metadata.entries; written = p.written.entries } };
 }
 
 impl Plan {
@@ -44,22 +50,101 @@ impl Plan {
             inlined: IndexMap::new(alloc),
             never_written: IndexSet::new(alloc),
             aliases: IndexMap::new(alloc),
+            metadata: IndexMap::new(alloc),
+            written: IndexMap::new(alloc),
         }
     }
 
-    /// The plan with these lists. Of several constants of one expression, or classes of one reference, it has the last.
-    #[tactic(auto, using(crate::proofs::Tables::put_in_turn))]
-    pub fn new(alloc: Global, lists: PlanLists) -> Result<Plan, OutOfMemory>
+    /// The plan with these lists. Of several constants of one expression, classes of one reference, or types of one
+    /// annotation, it has the last.
+    pub fn new(alloc: Global, mut lists: PlanLists) -> Result<Plan, OutOfMemory>
         ensures { IfOk result (λ plan. Answers plan (facts_in lists)) }
+    {
+        Plan::of_lists(alloc, &mut lists)
+    }
+
+    /// The same; the lists lose what is put in the plan.
+    fn of_lists(alloc: Global, lists: &mut PlanLists) -> Result<Plan, OutOfMemory>
+        ensures { IfOk result (λ plan. Answers plan (facts_in lists.old)) }
+    {
+        let mut plan = Plan::of_nodes(alloc, lists)?;
+        plan.set_tables(alloc, lists)?;
+        Ok(plan)
+    }
+
+    /// Puts what the lists have of constants, aliases, types and names in place of what the plan had; the lists lose it.
+    fn set_tables(&mut self, alloc: Global, lists: &mut PlanLists) -> Result<(), OutOfMemory>
+        ensures nodes { OnOk result (SameNodes self.new self.old) }
+        ensures tables { OnOk result (HasTables self.new (facts_in lists.old)) }
+    {
+        self.set_inlined(alloc, mem::replace(&mut lists.inlined, Vec::new(alloc)))?;
+        self.set_aliases(alloc, mem::replace(&mut lists.aliases, Vec::new(alloc)))?;
+        self.set_metadata(alloc, mem::replace(&mut lists.metadata, Vec::new(alloc)))?;
+        self.set_written(alloc, mem::replace(&mut lists.written, Vec::new(alloc)))?;
+        Ok(())
+    }
+
+    /// The plan with those of these lists that have nodes alone.
+    fn of_nodes(alloc: Global, lists: &PlanLists) -> Result<Plan, OutOfMemory>
+        ensures kept { IfOk result (λ plan. (n : ℕ) → is_in plan.kept n ≡ is_in (numbers_in lists.now.kept.items) n) }
+        ensures first { IfOk result (λ plan. (n : ℕ) → is_in plan.first n ≡ is_in (numbers_in lists.now.first.items) n) }
+        ensures dropped { IfOk result (λ plan. (n : ℕ) → is_in plan.dropped n ≡ is_in (numbers_in lists.now.dropped.items) n) }
+        ensures never_written { IfOk result (λ plan. (n : ℕ) → is_in plan.never_written n ≡ is_in (numbers_in lists.now.never_written.items) n) }
     {
         Ok(Plan {
             kept: set_of(alloc, lists.kept.as_slice())?,
             first: set_of(alloc, lists.first.as_slice())?,
             dropped: set_of(alloc, lists.dropped.as_slice())?,
-            inlined: map_of(alloc, lists.inlined)?,
+            inlined: IndexMap::new(alloc),
             never_written: set_of(alloc, lists.never_written.as_slice())?,
-            aliases: classes_of(alloc, lists.aliases)?,
+            aliases: IndexMap::new(alloc),
+            metadata: IndexMap::new(alloc),
+            written: IndexMap::new(alloc),
         })
+    }
+
+    /// Puts these constants of expressions in place of those that the plan had. Of several constants of one expression it has
+    /// the last.
+    #[tactic(auto, using(crate::proofs::Tables::put_in_turn))]
+    fn set_inlined(
+        &mut self,
+        alloc: Global,
+        constants: Vec<(NodeId, ConstantValue)>,
+    ) -> Result<(), OutOfMemory>
+        ensures put { OnOk result ((n : ℕ) → constant_at self.new.inlined n ≡ last_constant (constants_in constants.items) n) }
+        ensures others { self.new ≡ record self.old { inlined = self.new.inlined } }
+    {
+        self.inlined = map_of(alloc, constants)?;
+        Ok(())
+    }
+
+    /// Puts what metadata writes for these annotations in place of what the plan had. Of several types of one annotation it
+    /// has the last.
+    fn set_metadata(
+        &mut self,
+        alloc: Global,
+        types: Vec<(NodeId, MetadataType)>,
+    ) -> Result<(), OutOfMemory>
+        ensures put { OnOk result ((n : ℕ) → type_at self.new.metadata n ≡ last_type (types_in types.items) n) }
+        ensures others { self.new ≡ record self.old { metadata = self.new.metadata } }
+    {
+        self.metadata = types_of(alloc, types.as_slice())?;
+        Ok(())
+    }
+
+    /// Puts these names, each with the class whose metadata writes it, in place of those that the plan had. Of several classes
+    /// of one name it has the last.
+    #[tactic(auto, using(crate::proofs::Tables::put_in_turn))]
+    fn set_written(
+        &mut self,
+        alloc: Global,
+        names: Vec<(NodeId, NodeId)>,
+    ) -> Result<(), OutOfMemory>
+        ensures put { OnOk result ((n : ℕ) → alias_at self.new.written n ≡ last_alias (pairs_in names.items) n) }
+        ensures others { self.new ≡ record self.old { written = self.new.written } }
+    {
+        self.written = classes_of(alloc, names)?;
+        Ok(())
     }
 
     /// Puts these classes of references in place of those that the plan had. Of several classes of one reference it has the
@@ -127,6 +212,23 @@ impl Plan {
             None => None,
         }
     }
+
+    /// What metadata writes for the type annotation, if it tells of it.
+    pub fn metadata_of(&self, annotation: NodeId) -> Option<MetadataType>
+        ensures { result ≡ type_at self.now.metadata annotation.0 }
+    {
+        self.metadata.get(&annotation.0).copied()
+    }
+
+    /// The class whose metadata writes the reference as the first of a dotted name.
+    pub fn written_by(&self, node: NodeId) -> Option<NodeId>
+        ensures { option_map (λ class. class.0) result ≡ alias_at self.now.written node.0 }
+    {
+        match self.written.get(&node.0) {
+            Some(class) => Some(NodeId(*class)),
+            None => None,
+        }
+    }
 }
 
 /// The numbers of the nodes.
@@ -146,7 +248,7 @@ fn map_of(
     Ok(
         constants
             .into_iter()
-            .map(|(node, value)| (node.0, value))
+            .map(|constant| (constant.0.0, constant.1))
             .collect(alloc)?,
     )
 }
@@ -164,4 +266,31 @@ fn classes_of(
             .map(|(node, class)| (node.0, class.0))
             .collect(alloc)?,
     )
+}
+
+/// What is written for annotations, by their numbers.
+#[tactic(auto, using(crate::proofs::Tables::put_by_one))]
+fn types_of(
+    alloc: Global,
+    types: &[(NodeId, MetadataType)],
+) -> Result<IndexMap<u64, MetadataType>, OutOfMemory>
+    ensures { IfOk result (λ table. (n : ℕ) → type_at table.entries n ≡ last_type (types_in types.now) n) }
+{
+    let mut table = IndexMap::new(alloc);
+    for noted in types {
+        put(&mut table, noted.0.0, noted.1)?;
+    }
+    Ok(table)
+}
+
+/// Puts what is written under the number.
+fn put(
+    table: &mut IndexMap<u64, MetadataType>,
+    number: u64,
+    written: MetadataType,
+) -> Result<(), OutOfMemory>
+    ensures { OnOk result (table.new.entries ≡ insert_entry nat_eq table.old.entries number written) }
+{
+    table.insert(number, written)?;
+    Ok(())
 }

@@ -1,5 +1,5 @@
 -- What holds of each symbol of a table, whatever is done to it.
-use Rattle.std.proofs.Common.{◌≡◌, ◌∙◌, sym, ap, ℕ, List, [], ◌∷◌, ◌++◌, fold, length, Option, Some, None, arith}
+use Rattle.std.proofs.Common.{◌≡◌, ◌∙◌, sym, ap, ℕ, List, [], ◌∷◌, ◌++◌, fold, length, Option, Some, None, arith, Bool}
 use Rattle.std.proofs.lemmas.List.Sums.{fold-append}
 use Rattle.std.proofs.lemmas.Nat.{and_le_l, or_disjoint}
 use Rattle.std.specs.Int.RustNames.{bit_and, bit_or}
@@ -73,10 +73,10 @@ module _ (P : SymbolData → Type 0) (made : (t : List ℕ) (x : ScopeId) (r : R
   enum_all values (x ∷ xs) s h = enum_all values xs (with_enums values s x) (enum_each values x.number x.declared s h)
 
   -- it holds before the first reference
-  pub before_uses : (d : Doc) → Each P (declared_table d).symbols
-  before_uses d =
-      enum_all (values_of d) (scopes_of d) (all_declared (scopes_of d) (all_opened (marks_of d) (scopes_of d) (root_of (marks_of d) d)))
-      (declared_all (scopes_of d) (all_opened (marks_of d) (scopes_of d) (root_of (marks_of d) d)) (opened_all (marks_of d) (scopes_of d) (root_of (marks_of d) d) tt))
+  pub before_uses : (l : Bool) (d : Doc) → Each P (declared_table l d).symbols
+  before_uses l d =
+      enum_all (values_of l d) (scopes_of l d) (all_declared (scopes_of l d) (all_opened (marks_of d) (scopes_of l d) (root_of (marks_of d) d)))
+      (declared_all (scopes_of l d) (all_opened (marks_of d) (scopes_of l d) (root_of (marks_of d) d)) (opened_all (marks_of d) (scopes_of l d) (root_of (marks_of d) d) tt))
 
 -- what says nothing of references
 module _ (P : SymbolData → Type 0) (kept : (rs : List ReferenceId) (y : SymbolData) → P y → P (record y { references = rs })) where
@@ -102,4 +102,4 @@ flags_more : (r : Redeclaration) (y : SymbolData) → HasAllFlags y → HasAllFl
 flags_more r y h = ap (λ f. joined f r.flags) h ∙ sym (fold-append (λ (f : SymbolFlags) (q : Redeclaration). joined f q.flags) (symbol_flag 0) y.declarations (r ∷ []))
 
 pub joins_flags : JoinsFlags
-joins_flags d = used_all HasAllFlags (λ rs y h. h) (spellings_of d) (owners_of d) (declared_table d) (before_uses HasAllFlags flags_made flags_more (λ bs v y h. h) d)
+joins_flags l d = used_all HasAllFlags (λ rs y h. h) (spellings_of d) (owners_of d) (declared_table l d) (before_uses HasAllFlags flags_made flags_more (λ bs v y h. h) l d)

@@ -105,10 +105,10 @@ enum_unused : (values : Values) (xs : List Opened) (s : Scoped) → (all_enums v
 enum_unused values [] s = refl
 enum_unused values (x ∷ xs) s = enum_unused values xs (with_enums values s x) ∙ enum_unused_each values x.number x.declared s
 
-unused : (d : Doc) → (declared_table d).references ≡ []
-unused d =
-    enum_unused (values_of d) (scopes_of d) (all_declared (scopes_of d) (all_opened (marks_of d) (scopes_of d) (root_of (marks_of d) d)))
-    ∙ declared_unused (scopes_of d) (all_opened (marks_of d) (scopes_of d) (root_of (marks_of d) d)) ∙ opened_unused (marks_of d) (scopes_of d) (root_of (marks_of d) d)
+unused : (l : Bool) (d : Doc) → (declared_table l d).references ≡ []
+unused l d =
+    enum_unused (values_of l d) (scopes_of l d) (all_declared (scopes_of l d) (all_opened (marks_of d) (scopes_of l d) (root_of (marks_of d) d)))
+    ∙ declared_unused (scopes_of l d) (all_opened (marks_of d) (scopes_of l d) (root_of (marks_of d) d)) ∙ opened_unused (marks_of d) (scopes_of l d) (root_of (marks_of d) d)
 
 means_in : (names : Names) (os : List Owned) (s : Scoped) → s.references ≡ [] → (all_used names os s).references ≡ map (λ o. live_slot (reference_of names (all_used names os s) o)) os
 means_in names os s none =
@@ -116,7 +116,7 @@ means_in names os s none =
     ∙ map_same (slot_in names s.scopes s.opened) (λ o. live_slot (reference_of names (all_used names os s) o)) os (λ o. ap (λ xs. slot_in names xs s.opened o) (sym (scopes_stay names os s)) ∙ ap (λ es. slot_in names (all_used names os s).scopes es o) (sym (opened_stay names os s)) ∙ sym (slot_same names (all_used names os s) o))
 
 pub means_owners : MeansOwners
-means_owners d = means_in (spellings_of d) (owners_of d) (declared_table d) (unused d)
+means_owners l d = means_in (spellings_of d) (owners_of d) (declared_table l d) (unused l d)
 
 -- ---- the references of each symbol
 
@@ -194,10 +194,10 @@ each_get P (y ∷ ys) (suc i) h = each_get P ys i h.1
 abbrev Unmeant : SymbolData → Type 0
 Unmeant y = y.references ≡ []
 
-unmeant : (d : Doc) → Each Unmeant (declared_table d).symbols
-unmeant d = before_uses Unmeant (λ t x r. refl) (λ r y h. h) (λ bs v y h. h) d
+unmeant : (l : Bool) (d : Doc) → Each Unmeant (declared_table l d).symbols
+unmeant l d = before_uses Unmeant (λ t x r. refl) (λ r y h. h) (λ bs v y h. h) l d
 
 pub knows_uses : KnowsUses
-knows_uses d =
-    knows_all (spellings_of d) (owners_of d) (declared_table d)
-    (subst (λ (ss : List Slot). Knows ss (declared_table d).symbols) (sym (unused d)) (λ i. each_get Unmeant (declared_table d).symbols i (unmeant d)))
+knows_uses l d =
+    knows_all (spellings_of d) (owners_of d) (declared_table l d)
+    (subst (λ (ss : List Slot). Knows ss (declared_table l d).symbols) (sym (unused l d)) (λ i. each_get Unmeant (declared_table l d).symbols i (unmeant l d)))

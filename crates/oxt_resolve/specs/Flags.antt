@@ -9,8 +9,9 @@ use Rattle.oxt_declares.specs.declared.role.Role.TheVariants as role
 use Rattle.oxt_scopes.specs.declared.usage.Usage.{Usage}
 use Rattle.oxt_scopes.specs.declared.usage.Usage.TheVariants as usage
 use Rattle.oxt_scoping.specs.declared.entry.Redeclaration.{Redeclaration}
+use Rattle.oxt_scopes.specs.declared.standing.Emission.{Emission}
+use Rattle.oxt_scopes.specs.declared.standing.Emission.TheVariants as emission
 use Rattle.oxt_scopes.specs.declared.standing.Standing.{Standing}
-use Rattle.oxt_scopes.specs.declared.standing.Standing.TheVariants as standing
 use Rattle.oxt_names.specs.declared.flags.ReferenceFlags.{ReferenceFlags}
 use Rattle.oxt_names.specs.declared.flags.ScopeFlags.{ScopeFlags}
 use Rattle.oxt_names.specs.declared.flags.SymbolFlags.{SymbolFlags}
@@ -78,13 +79,20 @@ sort_flags sort.EnumMember = symbol_flag 4096
 sort_flags sort.ValueModule = symbol_flag 8192
 sort_flags sort.NamespaceModule = symbol_flag 16384
 
+abbrev pub is_ambient_by : Emission → Bool
+is_ambient_by emission.Ambient = true
+is_ambient_by emission.Declared = true
+is_ambient_by e = false
+
 abbrev pub is_ambient : Standing → Bool
-is_ambient standing.Ambient = true
-is_ambient s = false
+is_ambient s = is_ambient_by s.emission
+
+abbrev pub is_emitted_by : Emission → Bool
+is_emitted_by emission.Emitted = true
+is_emitted_by e = false
 
 abbrev pub is_emitted : Standing → Bool
-is_emitted standing.Emitted = true
-is_emitted s = false
+is_emitted s = is_emitted_by s.emission
 
 -- the flags of a declaration, of which that says whether it is ambient
 abbrev pub ambient_flags : Bool → SymbolFlags → SymbolFlags

@@ -21,7 +21,7 @@ live_slot r = record { reference = r; is_live = true }
 -- Each reference is a name that is used, and means the symbol of its spelling that is bound in the scope
 -- that owns it.
 abbrev pub MeansOwners : Type 0
-MeansOwners = (d : Doc) → (resolved d).references ≡ map (λ o. live_slot (reference_of (spellings_of d) (resolved d) o)) (owners_of d)
+MeansOwners = (l : Bool) (d : Doc) → (resolved l d).references ≡ map (λ o. live_slot (reference_of (spellings_of d) (resolved l d) o)) (owners_of d)
 
 -- the flags of these declarations, all together
 abbrev pub all_flags : List Redeclaration → SymbolFlags
@@ -32,7 +32,7 @@ HasAllFlags y = y.flags ≡ all_flags y.declarations
 
 -- The flags of a symbol are those of its declarations together.
 abbrev pub JoinsFlags : Type 0
-JoinsFlags = (d : Doc) → Each HasAllFlags (resolved d).symbols
+JoinsFlags = (l : Bool) (d : Doc) → Each HasAllFlags (resolved l d).symbols
 
 abbrev pub is_symbol : ℕ → Option SymbolId → Bool
 is_symbol i None = false
@@ -48,4 +48,4 @@ uses_of i ss = uses_from i 0 ss
 
 -- A symbol knows the references that mean it, in the order of the text.
 abbrev pub KnowsUses : Type 0
-KnowsUses = (d : Doc) (i : ℕ) → IfSome (slice_get (resolved d).symbols i) (λ y. y.references ≡ uses_of i (resolved d).references)
+KnowsUses = (l : Bool) (d : Doc) (i : ℕ) → IfSome (slice_get (resolved l d).symbols i) (λ y. y.references ≡ uses_of i (resolved l d).references)

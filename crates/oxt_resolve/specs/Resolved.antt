@@ -1,5 +1,5 @@
 -- The table of a document's scopes, symbols and references.
-use Rattle.std.specs.Prelude.{ℕ, List, [], ◌∷◌, ◌++◌, length, fold, Option, None, Some, nat_eq, slice_get}
+use Rattle.std.specs.Prelude.{ℕ, Bool, List, [], ◌∷◌, ◌++◌, length, fold, Option, None, Some, nat_eq, slice_get}
 use Rattle.std.specs.Map.{lookup}
 use Rattle.indexmap.specs.IndexMap.{insert_entry}
 use Rattle.oxt_tree.specs.Doc.{Doc}
@@ -132,8 +132,8 @@ with_enums values s x = fold (with_enum values x.number) s x.declared
 abbrev pub values_by : List Owned → List Opened → Doc → Values
 values_by os xs d n t = flat (first_value (is_in_body n t) (known_in os xs d))
 
-abbrev pub values_of : Doc → Values
-values_of d = values_by (owners_of d) (scopes_of d) d
+abbrev pub values_of : Bool → Doc → Values
+values_of legacy d = values_by (owners_of d) (scopes_of legacy d) d
 
 -- ---- references
 
@@ -180,14 +180,14 @@ declared_by marks xs d = all_declared xs (all_opened marks xs (root_of marks d))
 abbrev pub used_by : List Owned → List Opened → Doc → Scoped → Scoped
 used_by os xs d s = all_used (spellings_of d) os (all_enums (values_by os xs d) xs s)
 
--- the table without references
-abbrev pub declared_table : Doc → Scoped
-declared_table d = all_enums (values_of d) (scopes_of d) (declared_by (marks_of d) (scopes_of d) d)
+-- the table without references, where decorators have their older meaning or not
+abbrev pub declared_table : Bool → Doc → Scoped
+declared_table legacy d = all_enums (values_of legacy d) (scopes_of legacy d) (declared_by (marks_of d) (scopes_of legacy d) d)
 
 -- The scopes come first, in the order of the text, then what they declare, then the bodies and constants
 -- of enums, then the names that are used.
 abbrev pub table_by : List Owned → List Opened → Doc → Scoped
 table_by os xs d = used_by os xs d (declared_by (marks_of d) xs d)
 
-abbrev pub resolved : Doc → Scoped
-resolved d = table_by (owners_of d) (scopes_of d) d
+abbrev pub resolved : Bool → Doc → Scoped
+resolved legacy d = table_by (owners_of d) (scopes_of legacy d) d

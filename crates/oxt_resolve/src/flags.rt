@@ -7,7 +7,7 @@ use bitflags::Flags;
 use oxt_declares::declaration::{Declaration, Sort};
 use oxt_declares::role::Role;
 use oxt_names::flags::{ReferenceFlags, ScopeFlags, SymbolFlags};
-use oxt_scopes::standing::Standing;
+use oxt_scopes::standing::{Emission, Standing};
 use oxt_scopes::usage::Usage;
 use oxt_scoping::entry::Redeclaration;
 
@@ -135,8 +135,9 @@ fn emits(standing: Standing, declaration: &Declaration) -> bool
 fn is_ambient(standing: Standing) -> bool
     ensures { result ≡ is_ambient standing }
 {
-    match standing {
-        Standing::Ambient => true,
+    match standing.emission {
+        Emission::Ambient => true,
+        Emission::Declared => true,
         _ => false,
     }
 }
@@ -144,8 +145,8 @@ fn is_ambient(standing: Standing) -> bool
 fn is_emitted(standing: Standing) -> bool
     ensures { result ≡ is_emitted standing }
 {
-    match standing {
-        Standing::Emitted => true,
+    match standing.emission {
+        Emission::Emitted => true,
         _ => false,
     }
 }

@@ -23,15 +23,15 @@ use std::alloc::Global;
 
 /// The scopes of the tree in the order of the text, the symbols that they declare, the references of
 /// the names that it uses, the bodies of its enums and the constants of their members, and the names
-/// that it takes.
+/// that it takes. `legacy` says whether decorators have their older meaning.
 ///
 /// # Errors
 ///
 /// Fails only where memory runs out.
-pub fn resolve(alloc: Global, program: &Node) -> Result<Scoping, OutOfMemory>
-    ensures { IfOk result (λ table. table ≡ resolved (node_doc program.now)) }
+pub fn resolve(alloc: Global, program: &Node, legacy: bool) -> Result<Scoping, OutOfMemory>
+    ensures { IfOk result (λ table. table ≡ resolved legacy (node_doc program.now)) }
 {
-    let scopes = scopes_of(alloc, program)?;
+    let scopes = scopes_of(alloc, program, legacy)?;
     let owners = owners_of(alloc, program)?;
     table_of(alloc, program, scopes.as_slice(), owners.as_slice())
 }

@@ -1,5 +1,5 @@
 -- The scopes of a document, in the order of the text.
-use Rattle.std.specs.Prelude.{ℕ, List, [], ◌∷◌, ◌++◌, Option, None, Some}
+use Rattle.std.specs.Prelude.{ℕ, Bool, List, [], ◌∷◌, ◌++◌, Option, None, Some}
 use Rattle.oxt_grammar.specs.Field.{Field}
 use Rattle.oxt_grammar.specs.Rows.{row_of}
 use Rattle.oxt_grammar.specs.declared.kind.Kind.{Kind}
@@ -17,9 +17,8 @@ use Rattle.oxt_scopes.specs.declared.way.Step.{Step}
 use Rattle.oxt_scopes.specs.declared.way.Step.TheVariants as step
 use Rattle.oxt_scopes.specs.declared.way.Way.{Way}
 use Rattle.oxt_scopes.specs.declared.way.Way.TheVariants as way
-use Rattle.oxt_scopes.specs.Standings.{standing_in}
+use Rattle.oxt_scopes.specs.Standings.{of_program, standing_in}
 use Rattle.oxt_scopes.specs.declared.standing.Standing.{Standing}
-use Rattle.oxt_scopes.specs.declared.standing.Standing.TheVariants as standing
 
 -- a scope: its number, that of the scope around it, what the node is that opens it, how that node
 -- stands, and what it declares
@@ -81,6 +80,6 @@ abbrev mutual
   field_scopes (doc d ds) [] r s ns = []
   field_scopes (doc d ds) (f ∷ fs) r s ns = read_scopes (way_of r f.name) (scopes d) s ns ++ field_scopes ds fs r s ns
 
--- the scopes of a whole tree
-abbrev pub scopes_of : Doc → List Opened
-scopes_of d = scopes d way.Whole standing.Emitted []
+-- the scopes of a whole tree, in which decorators have their older meaning or not
+abbrev pub scopes_of : Bool → Doc → List Opened
+scopes_of legacy d = scopes d way.Whole (of_program legacy) []

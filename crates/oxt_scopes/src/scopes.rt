@@ -38,13 +38,18 @@ pub struct OpenedScope<'a> {
     pub declarations: Vec<Declaration<'a>>,
 }
 
-/// The scopes of the tree, in the order of the text, each in front of those in it.
+/// The scopes of the tree, in the order of the text, each in front of those in it. `legacy` says whether decorators have
+/// their older meaning.
 ///
 /// # Errors
 ///
 /// Fails only where memory runs out.
-pub fn scopes_of<'a>(alloc: Global, program: &'a Node) -> Result<Vec<OpenedScope<'a>>, OutOfMemory>
-    ensures { IfOk result (λ v. opened_views v.items ≡ scopes_of (node_doc program.now)) }
+pub fn scopes_of<'a>(
+    alloc: Global,
+    program: &'a Node,
+    legacy: bool,
+) -> Result<Vec<OpenedScope<'a>>, OutOfMemory>
+    ensures { IfOk result (λ v. opened_views v.items ≡ scopes_of legacy (node_doc program.now)) }
 {
     let mut around = Vec::new(alloc);
     let mut out = Vec::new(alloc);
@@ -52,7 +57,7 @@ pub fn scopes_of<'a>(alloc: Global, program: &'a Node) -> Result<Vec<OpenedScope
         alloc,
         program,
         Way::Whole,
-        Standing::Emitted,
+        Standing::of_program(legacy),
         &mut around,
         &mut out,
     )?;

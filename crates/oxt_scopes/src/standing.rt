@@ -6,7 +6,7 @@ ghost use Rattle.oxt_tree.specs.Fields.{is_kind, is_set, is_text, named};
 ghost use Rattle.oxt_tree.specs.Syntax.{erased_kinds, is_erased_kind, lacks_body};
 ghost use Rattle.oxt_tree.specs.View.{docs_in};
 ghost use Rattle.oxt_declares.specs.TypesAlone.{is_of_types};
-ghost use Rattle.oxt_scopes.specs.Standings.{declares_alone, is_erased_alone, is_erased_by, joined, own_standing, standing_in};
+ghost use Rattle.oxt_scopes.specs.Standings.{around_of, declares_alone, emission_in, is_erased_alone, is_erased_by, joined, keeps_decorators, of_program, own_emission, standing_in};
 
 use oxt_declares::role::Role;
 use oxt_declares::role_of::role_of;
@@ -15,51 +15,106 @@ use oxt_grammar::field::Field;
 use oxt_grammar::kind::Kind;
 use oxt_tree::tree::Node;
 
-/// Whether a declaration is there at run time.
+/// What becomes of a declaration.
 #[derive(Clone, Copy, Debug, PartialEq, Eq)]
-pub enum Standing {
-    /// It is.
+pub enum Emission {
+    /// It is there at run time.
     Emitted,
     /// It is erased.
     Erased,
     /// It is erased, since it says `declare` or stands in one that does.
     Ambient,
+    /// The same, of a field whose decorators outlive it.
+    Declared,
+}
+
+/// Whether a declaration is there at run time.
+#[derive(Clone, Copy, Debug, PartialEq, Eq)]
+pub struct Standing {
+    /// What becomes of it.
+    pub emission: Emission,
+    /// Whether decorators have their older meaning, so that those of a field that is only declared outlive it.
+    pub legacy: bool,
 }
 
 impl Standing {
+    /// The standing of a program.
+    pub fn of_program(legacy: bool) -> Standing
+        ensures { result ≡ of_program legacy }
+    {
+        Standing {
+            emission: Emission::Emitted,
+            legacy,
+        }
+    }
+
     /// The standing of the node, which stands in what has this one.
     pub fn within(self, node: &Node) -> Standing
         ensures { result ≡ standing_in self node.now.kind (docs_in node.now.parts.items) }
     {
-        joined(self, own_standing(node))
+        Standing {
+            emission: emission_in(self, node),
+            legacy: self.legacy,
+        }
     }
 }
 
-/// The standing of what stands in two of them.
-fn joined(around: Standing, own: Standing) -> Standing
+/// What becomes of the node in what has that standing.
+fn emission_in(standing: Standing, node: &Node) -> Emission
+    ensures { result ≡ emission_in standing node.now.kind (docs_in node.now.parts.items) }
+{
+    joined(
+        around_of(standing.emission, node.kind),
+        own_emission(standing.legacy, node),
+    )
+}
+
+/// What becomes of what is around a node of that kind, as far as the node goes with it: a decorator outlives its field.
+fn around_of(around: Emission, kind: Kind) -> Emission
+    ensures { result ≡ around_of around kind }
+{
+    match around {
+        Emission::Declared if kind.is(Kind::Decorator) => Emission::Emitted,
+        _ => around,
+    }
+}
+
+/// What becomes of what stands in two that become of that.
+fn joined(around: Emission, own: Emission) -> Emission
     ensures { result ≡ joined around own }
 {
     match around {
-        Standing::Ambient => Standing::Ambient,
-        Standing::Emitted => own,
-        Standing::Erased => match own {
-            Standing::Ambient => Standing::Ambient,
-            _ => Standing::Erased,
+        Emission::Emitted => own,
+        Emission::Erased => match own {
+            Emission::Erased => Emission::Erased,
+            Emission::Emitted => Emission::Erased,
+            _ => Emission::Ambient,
         },
+        _ => Emission::Ambient,
     }
 }
 
-/// The standing of the node by itself.
-fn own_standing(node: &Node) -> Standing
-    ensures { result ≡ own_standing node.now.kind (docs_in node.now.parts.items) }
+/// What becomes of the node by itself.
+fn own_emission(legacy: bool, node: &Node) -> Emission
+    ensures { result ≡ own_emission legacy node.now.kind (docs_in node.now.parts.items) }
 {
+    if keeps_decorators(legacy, node) {
+        return Emission::Declared;
+    }
     if declares_alone(node) {
-        return Standing::Ambient;
+        return Emission::Ambient;
     }
     if is_erased_alone(node) {
-        return Standing::Erased;
+        return Emission::Erased;
     }
-    Standing::Emitted
+    Emission::Emitted
+}
+
+/// Whether it is a field that is only declared, and its decorators outlive it.
+fn keeps_decorators(legacy: bool, node: &Node) -> bool
+    ensures { result ≡ keeps_decorators legacy node.now.kind (docs_in node.now.parts.items) }
+{
+    legacy && (node.kind.is(Kind::PropertyDefinition) && node.flag(Field::Declare))
 }
 
 /// Whether it is a declaration that says `declare`, or such a field.

@@ -315,7 +315,7 @@ fn is_value(flags: SymbolFlags) -> bool
 }
 
 /// The flags of what is more than a type.
-fn value_flags() -> SymbolFlags
+pub fn value_flags() -> SymbolFlags
     ensures { result.0 ≡ value_bits }
 {
     SymbolFlags::FunctionScopedVariable

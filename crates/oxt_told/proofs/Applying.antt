@@ -7,7 +7,9 @@ use Rattle.oxt_search.specs.All.{all_among}
 use Rattle.oxt_search.specs.Sought.{Sought}
 use Rattle.oxt_told.proofs.Loops.{all_told-append}
 use Rattle.oxt_told.specs.Source.{all_told}
-use Rattle.oxt_told.specs.Uses.{decorator_told, decorators_of, decorators_told, in_element, in_elements, in_parameters, parameters_told, uses_told}
+use Rattle.oxt_told.specs.Uses.{decorator_told, decorators_of, decorators_told, in_element, in_elements, in_parameters, in_part, in_types, parameters_told, uses_told}
+use Rattle.oxt_tree.specs.Fields.{field_of}
+use Rattle.std.specs.Prelude.{codes}
 use Rattle.oxt_tree.proofs.Lists.{drop_at, drop_end}
 use Rattle.oxt_tree.specs.View.{docs_in, part_doc}
 use Rattle.oxt_tree.specs.declared.ids.NodeId.{NodeId}
@@ -67,6 +69,12 @@ both_appended old one new a b first second = second ∙ ap (λ v. v ++ b) first 
 pub two_appended : (start : List NodeId) (one new a b : List ℕ) → start ≡ [] → one ≡ numbers_in start ++ a → new ≡ one ++ b → new ≡ a ++ b
 two_appended start one new a b empty first second = second ∙ ap (λ v. v ++ b) (first ∙ ap (λ ns. numbers_in ns ++ a) empty)
 
+pub four_appended : (old one two three new a b c d : List ℕ) → one ≡ old ++ a → two ≡ one ++ b → three ≡ two ++ c → new ≡ three ++ d
+    → new ≡ old ++ (a ++ (b ++ (c ++ d)))
+four_appended old one two three new a b c d first second third fourth =
+    both_appended old one new a (b ++ (c ++ d)) first
+    (both_appended one two new b (c ++ d) second (both_appended two three new c d third fourth))
+
 -- ---- uses in decorators of elements
 
 pub element_more : (q : Sought (Unit {0}) ℕ) (whole : List ℕ) (ps : List Part) (i : ℕ) (p : Part) (old new : List ℕ) → i < length ps → p ≡ get_or ps i p → new ≡ old ++ in_element q (part_doc p)
@@ -94,3 +102,20 @@ pub in_parameter_done : (q : Sought (Unit {0}) ℕ) (whole : List ℕ) (ps : Lis
 in_parameter_done q whole ps i old le so_far = sym (so_far ∙ ap (λ qs. old ++ in_parameters q (docs_in qs)) (drop_end ps i le) ∙ append-nil old)
 
 pub ruleset in_parameter_steps = (in_parameter_more, in_parameter_done)
+
+-- ---- uses in annotations of parameters
+
+abbrev typed_in : Sought (Unit {0}) ℕ → Part → List ℕ
+typed_in q p = in_part q (field_of (codes "typeAnnotation") (part_doc p))
+
+pub in_type_more : (q : Sought (Unit {0}) ℕ) (whole : List ℕ) (ps : List Part) (i : ℕ) (p : Part) (old new : List ℕ) → i < length ps → p ≡ get_or ps i p → new ≡ old ++ typed_in q p
+    → whole ≡ old ++ in_types q (docs_in (drop i ps)) → whole ≡ new ++ in_types q (docs_in (drop (i + 1) ps))
+in_type_more q whole ps i p old new lt here is so_far =
+    so_far ∙ ap (λ qs. old ++ in_types q (docs_in qs)) (drop_at ps i p lt here)
+    ∙ sym (append_assoc old (typed_in q p) (in_types q (docs_in (drop (i + 1) ps))))
+    ∙ ap (λ v. v ++ in_types q (docs_in (drop (i + 1) ps))) (sym is)
+
+pub in_type_done : (q : Sought (Unit {0}) ℕ) (whole : List ℕ) (ps : List Part) (i : ℕ) (old : List ℕ) → length ps ≤ i → whole ≡ old ++ in_types q (docs_in (drop i ps)) → old ≡ whole
+in_type_done q whole ps i old le so_far = sym (so_far ∙ ap (λ qs. old ++ in_types q (docs_in qs)) (drop_end ps i le) ∙ append-nil old)
+
+pub ruleset in_type_steps = (in_type_more, in_type_done)

@@ -17,5 +17,5 @@ told_by s p o d r ts =
     all_told ts (modules_told p.kept o.typescript.only_remove_type_imports d
     ++ (told_in s p (record { mode = o.typescript.rewrite_import_extensions; rules = r }) seat.Elsewhere d ++ strict_told o.«module» d))
 
-pub told_whole : (s : Scoped) (p : Asked) (o : TransformData) (d : Doc) (r : Rules) (old new : Tellings) → old ≡ [] → r ≡ rules_of o p.never p.inlined p.alias → new ≡ told_by s p o d r old → new ≡ told_of_source s p o d
-told_whole s p o d r old new empty are is = is ∙ ap (λ x. told_by s p o d x old) are ∙ ap (told_by s p o d (rules_of o p.never p.inlined p.alias)) empty
+pub told_whole : (s : Scoped) (p : Asked) (o : TransformData) (d : Doc) (r : Rules) (old new : Tellings) → old ≡ [] → r ≡ rules_of o p.never p.inlined p.alias p.metadata p.written → new ≡ told_by s p o d r old → new ≡ told_of_source s p o d
+told_whole s p o d r old new empty are is = is ∙ ap (λ x. told_by s p o d x old) are ∙ ap (told_by s p o d (rules_of o p.never p.inlined p.alias p.metadata p.written)) empty

@@ -8,3 +8,4 @@ pub mod Loops
 pub mod Naming
 pub mod Nested
 pub mod Taking
+pub mod Typing

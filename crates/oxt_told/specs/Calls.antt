@@ -10,6 +10,7 @@ use Rattle.oxt_fields.specs.declared.fate.Fate.{Fate}
 use Rattle.oxt_fields.specs.declared.fate.Fate.TheVariants as fates
 use Rattle.oxt_grammar.specs.declared.kind.Kind.TheVariants as kind
 use Rattle.oxt_scoping.specs.Scoped.{Scoped}
+use Rattle.oxt_told.specs.Metadata.{element_described}
 use Rattle.oxt_told.specs.Symbols.{number_in}
 use Rattle.oxt_told.specs.Tags.{call_part, callee, key_part, object_use, tag_for}
 use Rattle.oxt_told.specs.declared.calls.Shared.{Shared}
@@ -110,20 +111,21 @@ waits_last waits last = waits && last
 -- ---- the call that an element gives
 
 -- the call by that name, whose key has a temporary of its own or not
-abbrev pub calling_of : Use → Bool → Doc → Calling
-calling_of u has_temporary d =
+abbrev pub calling_of : Rules → Use → Bool → Doc → Calling
+calling_of r u has_temporary d =
     record {
       class = u;
       is_static = is_static d;
       is_private = is_kind kind.PrivateIdentifier (key_in d);
       is_field = is_kind kind.PropertyDefinition d;
       tag = tag_for call_part has_temporary (number_in (key_in d));
+      metadata = element_described r d;
     }
 
 -- The call that an element gives, if its class has a name by which calls call it.
-abbrev pub call_of : Option Use → Bool → Doc → Option Calling
-call_of None has_temporary d = None
-call_of (Some u) has_temporary d = if is_called d then Some (calling_of u has_temporary d) else None
+abbrev pub call_of : Rules → Option Use → Bool → Doc → Option Calling
+call_of r None has_temporary d = None
+call_of r (Some u) has_temporary d = if is_called d then Some (calling_of r u has_temporary d) else None
 
 -- the key of such a call needs a temporary
 abbrev pub needs_tag : Rules → Doc → Bool
@@ -167,16 +169,16 @@ gone_told i (Some c) = called_told i false (Some c)
 
 -- A field of that number with that fate. `last` says that the class's alias is kept in front of its key, if that waits.
 abbrev pub fate_told : Rules → Option Use → Bool → Fate → ℕ → Doc → Tellings
-fate_told r u last fates.Stays i d = called_told i true (call_of u (needs_tag r d) d)
-fate_told r u last fates.Goes i d = gone_told i (call_of u false d)
+fate_told r u last fates.Stays i d = called_told i true (call_of r u (needs_tag r d) d)
+fate_told r u last fates.Goes i d = gone_told i (call_of r u false d)
 fate_told r u last fates.LeavesKey i d = (i, leaves_key last) ∷ []
 fate_told r u last (fates.Moves stays has_temporary) i d =
-    (i, moves (moving_of stays has_temporary (call_of u (staying_needs_tag r stays d) d) (waits_last has_temporary last) d)) ∷ []
+    (i, moves (moving_of stays has_temporary (call_of r u (staying_needs_tag r stays d) d) (waits_last has_temporary last) d)) ∷ []
 
 -- a field, which may be only declared
 abbrev pub field_told : Rules → Common → Bool → ℕ → Doc → Tellings
 field_told r o last i d =
-    if is_declared d then called_told i false (call_of o.callee (needs_tag r d) d)
+    if is_declared d then called_told i false (call_of r o.callee (needs_tag r d) d)
     else fate_told r o.callee last (fate r o.hoists d) i d
 
 -- ---- accessors
@@ -212,7 +214,7 @@ accessing_of r o call i d =
 -- an accessor of that number, in front of which keys wait or not, where accessors are lowered
 abbrev pub accessor_told : Rules → Common → Bool → ℕ → Doc → Tellings
 accessor_told r o waiting i d =
-    if r.legacy then (i, accessor (accessing_of r o (call_of o.callee (accessor_needs_tag r waiting d) d) i d)) ∷ [] else []
+    if r.legacy then (i, accessor (accessing_of r o (call_of r o.callee (accessor_needs_tag r waiting d) d) i d)) ∷ [] else []
 
 -- ---- all of them
 
@@ -221,7 +223,7 @@ accessor_told r o waiting i d =
 abbrev pub element_by : Rules → Common → Bool → Bool → ℕ → Doc → Tellings
 element_by r o waiting last i d =
     if is_kind kind.PropertyDefinition d then field_told r o last i d
-    else if is_kind kind.MethodDefinition d then called_told i true (call_of o.callee (method_needs_tag r waiting d) d)
+    else if is_kind kind.MethodDefinition d then called_told i true (call_of r o.callee (method_needs_tag r waiting d) d)
     else if is_kind kind.AccessorProperty d then accessor_told r o waiting i d
     else []
 

@@ -130,7 +130,7 @@ gains_told s r w i d =
 -- a class of that number, of which decorators make that: itself, its body, its elements, and the uses of its inner name
 abbrev pub parts_told : Scoped → Rules → Lowering → ℕ → Doc → Tellings
 parts_told s r w i d =
-    class_itself_told s w i d
+    class_itself_told s r w i d
     ++ (gains_told s r w i d
     ++ (elements_told r (common_of s w i d) false (elements_of d) ++ inner_told s w i d))
 

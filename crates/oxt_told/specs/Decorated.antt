@@ -3,7 +3,7 @@ use Rattle.std.specs.Prelude.{ℕ, [], ◌∷◌, Bool, true, false, not, ◌&&�
 use Rattle.oxt_decorated.specs.Calls.{calls_any, is_decorated}
 use Rattle.oxt_decorated.specs.PrivateIn.{holds_private_in}
 use Rattle.oxt_decorated.specs.Statics.{has_static_accessor, has_static_part}
-use Rattle.oxt_facts.specs.Told.{Decorating, Tellings, Use, decorated, default_class, titled}
+use Rattle.oxt_facts.specs.Told.{Decorating, Described, Tellings, Use, decorated, default_class, titled, undescribed}
 use Rattle.oxt_fields.specs.Classes.{elements_of}
 use Rattle.oxt_fields.specs.Rules.{Rules}
 use Rattle.oxt_grammar.specs.declared.kind.Kind.{Kind}
@@ -12,6 +12,7 @@ use Rattle.oxt_scoping.specs.Scoped.{Scoped}
 use Rattle.oxt_search.specs.First.{first_in}
 use Rattle.oxt_search.specs.Sought.{Sought}
 use Rattle.oxt_search.specs.declared.search.Inside.TheVariants as inside
+use Rattle.oxt_told.specs.Metadata.{class_described}
 use Rattle.oxt_told.specs.Tags.{alias_part, class_use, inner_part, is_nameless, own_use, tag_at, tag_for}
 use Rattle.oxt_told.specs.declared.lowering.Lowering.{Lowering}
 use Rattle.oxt_tree.specs.Doc.{Doc, nil, flag, number, text, list, node, Docs}
@@ -109,9 +110,13 @@ takes_inner w d = w.is_decorated && takes_name w d
 abbrev pub has_calls_behind : Lowering → Bool
 has_calls_behind w = w.has_calls && not w.is_inside
 
+-- the metadata in its own call, if it is decorated itself
+abbrev pub own_metadata : Rules → Lowering → Doc → Described
+own_metadata r w d = if w.is_decorated then class_described r d else undescribed
+
 -- the declaration of a class of that number with that name
-abbrev pub decorating_of : Lowering → ℕ → Doc → Option Use → Decorating
-decorating_of w i d name =
+abbrev pub decorating_of : Rules → Lowering → ℕ → Doc → Option Use → Decorating
+decorating_of r w i d name =
     record {
       is_decorated = w.is_decorated;
       number = i;
@@ -120,6 +125,7 @@ decorating_of w i d name =
       alias = tag_for alias_part w.has_alias (Some i);
       keeps_alias = keeps_alias w;
       has_calls = has_calls_behind w;
+      metadata = own_metadata r w d;
     }
 
 -- something is called behind the declaration of a class, or it takes a made name
@@ -127,10 +133,10 @@ abbrev pub is_lowered : Lowering → Doc → Bool
 is_lowered w d = w.is_decorated || (w.has_calls || takes_name w d)
 
 -- the declaration of a class, if something is called behind it or it takes a made name
-abbrev pub declaration_told : Scoped → Lowering → ℕ → Doc → Tellings
-declaration_told s w i d =
+abbrev pub declaration_told : Scoped → Rules → Lowering → ℕ → Doc → Tellings
+declaration_told s r w i d =
     if is_lowered w d
-    then (i, decorated (decorating_of w i d (own_use s w i d))) ∷ []
+    then (i, decorated (decorating_of r w i d (own_use s w i d))) ∷ []
     else []
 
 -- the expression of a class, if it takes a made name
@@ -138,8 +144,8 @@ abbrev pub expression_told : Lowering → ℕ → Doc → Tellings
 expression_told w i d = if takes_name w d then (i, titled (tag_at i inner_part)) ∷ [] else []
 
 -- the class itself
-abbrev pub class_itself_told : Scoped → Lowering → ℕ → Doc → Tellings
-class_itself_told s w i d = if is_kind kind.ClassDeclaration d then declaration_told s w i d else expression_told w i d
+abbrev pub class_itself_told : Scoped → Rules → Lowering → ℕ → Doc → Tellings
+class_itself_told s r w i d = if is_kind kind.ClassDeclaration d then declaration_told s r w i d else expression_told w i d
 
 -- ---- default exports
 

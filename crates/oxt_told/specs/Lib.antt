@@ -3,6 +3,7 @@ pub mod Classes
 pub mod Decorated
 pub mod Extensions
 pub mod Groups
+pub mod Metadata
 pub mod Modules
 pub mod Namespaces
 pub mod Source

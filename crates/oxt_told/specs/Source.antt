@@ -5,6 +5,8 @@ use Rattle.indexmap.specs.IndexMap.{insert_entry}
 use Rattle.oxt_facts.specs.Told.{Tellings, Value, block, member, bare, inlined, gone, constant, following, written}
 use Rattle.oxt_modules.specs.Names.{declared_symbol}
 use Rattle.oxt_options.specs.Facts.{Facts, alias_at, constant_at, is_in}
+use Rattle.oxt_options.specs.Metadata.{type_at}
+use Rattle.oxt_options.specs.declared.metadata.MetadataType.{MetadataType}
 use Rattle.oxt_options.specs.declared.rewrite.RewriteExtensionsMode.{RewriteExtensionsMode}
 use Rattle.oxt_scoping.specs.Entries.{SymbolData}
 use Rattle.oxt_scoping.specs.Scoped.{Scoped, live_at}
@@ -119,7 +121,8 @@ members_bares s a (doc d ds) = member_bares s a d ++ members_bares s a ds
 -- ---- blocks
 
 -- what the plan says of nodes by their numbers: which specifiers are kept, which blocks are first, which are dropped, which
--- expressions are inlined, which are names that nothing writes to, and which are read as the alias of a class
+-- expressions are inlined, which are names that nothing writes to, which are read as the alias of a class, what metadata writes for
+-- annotations, and which names it writes
 pub record Asked : Type 0 where
   pub kept : ℕ → Bool
   pub first : ℕ → Bool
@@ -127,6 +130,8 @@ pub record Asked : Type 0 where
   pub inlined : ℕ → Option Constant
   pub never : ℕ → Bool
   pub alias : ℕ → Option ℕ
+  pub metadata : ℕ → Option MetadataType
+  pub written : ℕ → Option ℕ
 
 -- what a plan that knows that says
 abbrev pub asked_of : Facts → Asked
@@ -138,6 +143,8 @@ asked_of p =
       inlined = constant_at p.inlined;
       never = is_in p.never_written;
       alias = alias_at p.aliases;
+      metadata = type_at p.metadata;
+      written = alias_at p.written;
     }
 
 -- what is chosen for the whole source: how extensions are rewritten, and the rules by which fields are lowered
@@ -147,7 +154,7 @@ pub record Chosen : Type 0 where
 
 -- what the options choose for a source of whose nodes that is asked
 abbrev pub chosen_of : TransformData → Asked → Chosen
-chosen_of o p = record { mode = o.typescript.rewrite_import_extensions; rules = rules_of o p.never p.inlined p.alias }
+chosen_of o p = record { mode = o.typescript.rewrite_import_extensions; rules = rules_of o p.never p.inlined p.alias p.metadata p.written }
 
 -- the same as the program has it
 abbrev pub chosen_in : Source → Chosen

@@ -4,6 +4,7 @@ use Rattle.oxt_decorated.specs.Calls.{is_called}
 use Rattle.oxt_facts.specs.Told.{Tellings, alias, applied, inner}
 use Rattle.oxt_fields.specs.Classes.{elements_of, parameters_of}
 use Rattle.oxt_fields.specs.Rules.{Rules}
+use Rattle.oxt_metadata.specs.Typings.{function_field}
 use Rattle.oxt_grammar.specs.Places.{same_kind}
 use Rattle.oxt_grammar.specs.declared.kind.Kind.{Kind}
 use Rattle.oxt_grammar.specs.declared.kind.Kind.TheVariants as kind
@@ -64,14 +65,36 @@ group_uses s g =
       in_field = λ u k f. Some u;
     }
 
+-- those in a node
+abbrev pub in_part : Sought (Unit {0}) ℕ → Doc → List ℕ
+in_part q nil = []
+in_part q (flag b) = []
+in_part q (number n) = []
+in_part q (text t) = []
+in_part q (list ds) = []
+in_part q (node k i b e ds) = all_in q (node k i b e ds) tt
+
+-- those in the annotations of parameters
+abbrev pub in_types : Sought (Unit {0}) ℕ → Docs → List ℕ
+in_types q no_docs = []
+in_types q (doc d ds) = in_part q (field_of (codes "typeAnnotation") d) ++ in_types q ds
+
 -- those in the decorators of parameters
 abbrev pub in_parameters : Sought (Unit {0}) ℕ → Docs → List ℕ
 in_parameters q no_docs = []
 in_parameters q (doc d ds) = all_among q (decorators_of d) tt ++ in_parameters q ds
 
--- those in the decorators of an element and of its parameters
+-- those in the annotations of which the metadata of an element tells: its own, of its parameters, and of what it returns
+abbrev pub in_annotations : Sought (Unit {0}) ℕ → Doc → List ℕ
+in_annotations q d =
+    in_part q (field_of (codes "typeAnnotation") d)
+    ++ (in_types q (parameters_of d)
+    ++ (in_part q (field_of (codes "typeAnnotation") (field_of (codes "rest") (function_field (codes "params") d)))
+    ++ in_part q (function_field (codes "returnType") d)))
+
+-- those in the decorators of an element and of its parameters, and in these annotations
 abbrev pub in_called : Sought (Unit {0}) ℕ → Doc → List ℕ
-in_called q d = all_among q (decorators_of d) tt ++ in_parameters q (parameters_of d)
+in_called q d = (all_among q (decorators_of d) tt ++ in_parameters q (parameters_of d)) ++ in_annotations q d
 
 -- the same, if it gives a call
 abbrev pub in_element : Sought (Unit {0}) ℕ → Doc → List ℕ
@@ -81,23 +104,14 @@ abbrev pub in_elements : Sought (Unit {0}) ℕ → Docs → List ℕ
 in_elements q no_docs = []
 in_elements q (doc d ds) = in_element q d ++ in_elements q ds
 
--- those in what a class extends
-abbrev pub in_heritage : Sought (Unit {0}) ℕ → Doc → List ℕ
-in_heritage q nil = []
-in_heritage q (flag b) = []
-in_heritage q (number n) = []
-in_heritage q (text t) = []
-in_heritage q (list ds) = []
-in_heritage q (node k i b e ds) = all_in q (node k i b e ds) tt
-
--- those in decorators of elements whose calls stand in the class
+-- those in decorators and annotations of elements whose calls stand in the class
 abbrev pub in_inside : Sought (Unit {0}) ℕ → Lowering → Doc → List ℕ
 in_inside q w d = if w.is_inside then in_elements q (elements_of d) else []
 
--- the uses that mean the inner name of a decorated class: those in what it extends, and those in decorators of elements whose calls
--- stand in it
+-- the uses that mean the inner name of a decorated class: those in what it extends, and those in decorators and annotations of
+-- elements whose calls stand in it
 abbrev pub inner_uses : Sought (Unit {0}) ℕ → Lowering → Doc → List ℕ
-inner_uses q w d = in_heritage q (field_of (codes "superClass") d) ++ in_inside q w d
+inner_uses q w d = in_part q (field_of (codes "superClass") d) ++ in_inside q w d
 
 -- these uses mean that group
 abbrev pub uses_told : ℕ → List ℕ → Tellings

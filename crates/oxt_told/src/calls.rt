@@ -10,6 +10,7 @@ ghost use Rattle.oxt_tree.specs.Names.{name_bytes};
 ghost use Rattle.oxt_tree.specs.View.{docs_in, node_doc, part_doc};
 
 use crate::lowering::Lowering;
+use crate::metadata::element_described;
 use crate::tags::{callee, object_use, share_use, tag_of_key};
 use crate::told::Source;
 use oxt_decorated::calls::is_called;
@@ -227,16 +228,16 @@ fn tell_method(
     told: &mut ToldNodes,
 ) -> Result<(), OutOfMemory>
     ensures { OnOk result (told.new ≡ all_told told.old (called_told node.now.id.0 true
-        (call_of (option_map use_view shared.now.callee)
+        (call_of (rules_view source.now.rules) (option_map use_view shared.now.callee)
         (method_needs_tag (rules_view source.now.rules) waiting (node_doc node.now)) (node_doc node.now)))) }
 {
     let needs_tag = method_needs_tag(source.rules, waiting, node);
-    tell_call(source.alloc, shared, true, needs_tag, node, told)
+    tell_call(source, shared, true, needs_tag, node, told)
 }
 
 /// Tells of the element, which stays or not, if it gives a call. Its key may have a temporary.
 fn tell_call(
-    alloc: Global,
+    source: &Source,
     shared: &Shared,
     stays: bool,
     has_temporary: bool,
@@ -244,9 +245,9 @@ fn tell_call(
     told: &mut ToldNodes,
 ) -> Result<(), OutOfMemory>
     ensures { OnOk result (told.new ≡ all_told told.old (called_told node.now.id.0 stays
-        (call_of (option_map use_view shared.now.callee) has_temporary (node_doc node.now)))) }
+        (call_of (rules_view source.now.rules) (option_map use_view shared.now.callee) has_temporary (node_doc node.now)))) }
 {
-    let call = call_of(alloc, shared, has_temporary, node)?;
+    let call = call_of(source, shared, has_temporary, node)?;
     tell_called(node.id, stays, call, told)
 }
 
@@ -268,32 +269,32 @@ fn tell_called(
 
 /// The call that the element gives, if its class has a name by which calls call it.
 fn call_of(
-    alloc: Global,
+    source: &Source,
     shared: &Shared,
     has_temporary: bool,
     node: &Node,
 ) -> Result<Option<ToldCall>, OutOfMemory>
     ensures { IfOk result (λ call. option_map calling_view call
-        ≡ call_of (option_map use_view shared.now.callee) has_temporary (node_doc node.now)) }
+        ≡ call_of (rules_view source.now.rules) (option_map use_view shared.now.callee) has_temporary (node_doc node.now)) }
 {
     match &shared.callee {
-        Some(callee) => call_by(alloc, callee, has_temporary, node),
+        Some(callee) => call_by(source, callee, has_temporary, node),
         None => Ok(None),
     }
 }
 
 /// The same by that name.
 fn call_by(
-    alloc: Global,
+    source: &Source,
     callee: &ToldUse,
     has_temporary: bool,
     node: &Node,
 ) -> Result<Option<ToldCall>, OutOfMemory>
     ensures { IfOk result (λ call. option_map calling_view call
-        ≡ call_of (Some (use_view callee.now)) has_temporary (node_doc node.now)) }
+        ≡ call_of (rules_view source.now.rules) (Some (use_view callee.now)) has_temporary (node_doc node.now)) }
 {
     if is_called(node) {
-        Ok(Some(calling_of(alloc, callee, has_temporary, node)?))
+        Ok(Some(calling_of(source, callee, has_temporary, node)?))
     } else {
         Ok(None)
     }
@@ -301,20 +302,21 @@ fn call_by(
 
 /// The call by that name of the element, whose key may have a temporary of its own.
 fn calling_of(
-    alloc: Global,
+    source: &Source,
     callee: &ToldUse,
     has_temporary: bool,
     node: &Node,
 ) -> Result<ToldCall, OutOfMemory>
     ensures { IfOk result (λ call. calling_view call
-        ≡ calling_of (use_view callee.now) has_temporary (node_doc node.now)) }
+        ≡ calling_of (rules_view source.now.rules) (use_view callee.now) has_temporary (node_doc node.now)) }
 {
     Ok(ToldCall {
         class: share_use(callee)?,
         is_static: node.flag(Field::Static),
         is_private: node.holds_kind(Field::Key, Kind::PrivateIdentifier),
         is_field: node.kind.is(Kind::PropertyDefinition),
-        tag: tag_of_key(alloc, "m", has_temporary, node.field(Field::Key))?,
+        tag: tag_of_key(source.alloc, "m", has_temporary, node.field(Field::Key))?,
+        metadata: element_described(source, node)?,
     })
 }
 
@@ -359,7 +361,7 @@ fn tell_field(
 {
     if node.flag(Field::Declare) {
         let needs_tag = needs_tag(source.rules, node);
-        tell_call(source.alloc, shared, false, needs_tag, node, told)
+        tell_call(source, shared, false, needs_tag, node, told)
     } else {
         let outcome = fate_of(source.rules, shared.hoists, node);
         tell_fate(source, shared, is_last, outcome, node, told)
@@ -382,16 +384,16 @@ fn tell_fate(
     match outcome {
         Fate::Stays => {
             let needs_tag = needs_tag(source.rules, node);
-            tell_call(source.alloc, shared, true, needs_tag, node, told)
+            tell_call(source, shared, true, needs_tag, node, told)
         }
-        Fate::Goes => tell_going(source.alloc, shared, node, told),
+        Fate::Goes => tell_going(source, shared, node, told),
         Fate::LeavesKey => told.tell(node.id, Told::LeavesKey(is_last)),
         Fate::Moves {
             stays,
             has_temporary,
         } => {
             let needs_tag = staying_needs_tag(source.rules, stays, node);
-            let call = call_of(source.alloc, shared, needs_tag, node)?;
+            let call = call_of(source, shared, needs_tag, node)?;
             let is_last = waits_last(has_temporary, is_last);
             tell_moving(
                 source.alloc,
@@ -422,15 +424,16 @@ fn waits_last(waits: bool, is_last: bool) -> bool
 
 /// Tells of the field, which goes, and may give a call.
 fn tell_going(
-    alloc: Global,
+    source: &Source,
     shared: &Shared,
     node: &Node,
     told: &mut ToldNodes,
 ) -> Result<(), OutOfMemory>
     ensures { OnOk result (told.new ≡ all_told told.old
-        (gone_told node.now.id.0 (call_of (option_map use_view shared.now.callee) false (node_doc node.now)))) }
+        (gone_told node.now.id.0
+        (call_of (rules_view source.now.rules) (option_map use_view shared.now.callee) false (node_doc node.now)))) }
 {
-    let call = call_of(alloc, shared, false, node)?;
+    let call = call_of(source, shared, false, node)?;
     tell_gone(node.id, call, told)
 }
 
@@ -482,7 +485,7 @@ fn tell_accessor(
 {
     if source.rules.legacy {
         let needs_tag = accessor_needs_tag(source.rules, waiting, node);
-        let call = call_of(source.alloc, shared, needs_tag, node)?;
+        let call = call_of(source, shared, needs_tag, node)?;
         let accessor = accessing_of(source, shared, call, node)?;
         told.tell(node.id, Told::Accessor(accessor))
     } else {

@@ -1,20 +1,21 @@
 //! What is told of classes that are decorated, whose elements are, or that take a made name.
 ghost use Rattle.std.specs.Prelude.{◌≡◌, ℕ, IfOk, None, OnOk, Some, codes, if◌then◌else◌, option_map};
-ghost use Rattle.oxt_facts.specs.Told.{decorating_view, use_view};
+ghost use Rattle.oxt_facts.specs.Told.{decorating_view, metadata_view, use_view};
 ghost use Rattle.oxt_fields.specs.Rules.{rules_view};
-ghost use Rattle.oxt_told.specs.Decorated.{alias_uses, calls_inside, class_exported, class_itself_told, declaration_lowering, declaration_told, decorating_of, default_told, expression_lowering, expression_told, export_named, has_alias, has_calls_behind, has_front, is_called_behind, is_lowered, is_number, is_used_in, keeps_alias, lowering_of, no_lowering, takes_inner, takes_name};
+ghost use Rattle.oxt_told.specs.Decorated.{alias_uses, calls_inside, class_exported, class_itself_told, declaration_lowering, declaration_told, decorating_of, default_told, expression_lowering, expression_told, export_named, has_alias, has_calls_behind, has_front, is_called_behind, is_lowered, is_number, is_used_in, keeps_alias, lowering_of, no_lowering, own_metadata, takes_inner, takes_name};
 ghost use Rattle.oxt_told.specs.Source.{all_told};
 ghost use Rattle.oxt_told.specs.Tags.{class_use};
 ghost use Rattle.oxt_tree.specs.Fields.{field_of};
 ghost use Rattle.oxt_tree.specs.View.{doc_or_nil, docs_in, node_doc};
 
 use crate::lowering::Lowering;
+use crate::metadata::{class_described, undescribed};
 use crate::tags::{class_use, is_nameless, own_use, tag_at, tag_if};
 use crate::told::Source;
 use oxt_decorated::calls::{calls_any, is_decorated};
 use oxt_decorated::private_in::holds_private_in;
 use oxt_decorated::statics::{has_static_accessor, has_static_part};
-use oxt_facts::told::{Told, ToldDecorated, ToldNodes, ToldUse};
+use oxt_facts::told::{Told, ToldDecorated, ToldMetadata, ToldNodes, ToldUse};
 use oxt_fields::class::elements_of;
 use oxt_fields::rules::FieldRules;
 use oxt_grammar::field::Field;
@@ -185,7 +186,7 @@ pub fn tell_itself(
     told: &mut ToldNodes,
 ) -> Result<(), OutOfMemory>
     ensures { OnOk result (told.new ≡ all_told told.old
-        (class_itself_told source.now.scoping.now lowering class.now.id.0 (node_doc class.now))) }
+        (class_itself_told source.now.scoping.now (rules_view source.now.rules) lowering class.now.id.0 (node_doc class.now))) }
 {
     if class.kind.is(Kind::ClassDeclaration) {
         tell_declaration(source, lowering, class, told)
@@ -202,7 +203,7 @@ fn tell_declaration(
     told: &mut ToldNodes,
 ) -> Result<(), OutOfMemory>
     ensures { OnOk result (told.new ≡ all_told told.old
-        (declaration_told source.now.scoping.now lowering class.now.id.0 (node_doc class.now))) }
+        (declaration_told source.now.scoping.now (rules_view source.now.rules) lowering class.now.id.0 (node_doc class.now))) }
 {
     if is_lowered(lowering, class) {
         let name = own_use(source, lowering, class)?;
@@ -235,7 +236,7 @@ fn decorating_of(
     name: Option<ToldUse>,
 ) -> Result<ToldDecorated, OutOfMemory>
     ensures { IfOk result (λ decorated. decorating_view decorated
-        ≡ decorating_of lowering class.now.id.0 (node_doc class.now) (option_map use_view name)) }
+        ≡ decorating_of (rules_view source.now.rules) lowering class.now.id.0 (node_doc class.now) (option_map use_view name)) }
 {
     let inner = tag_if(source.alloc, "c", takes_inner(lowering, class), class.id.0)?;
     let alias = tag_if(source.alloc, "a", lowering.has_alias, class.id.0)?;
@@ -247,7 +248,24 @@ fn decorating_of(
         alias,
         keeps_alias: keeps_alias(lowering),
         has_calls: has_calls_behind(lowering),
+        metadata: own_metadata(source, lowering, class)?,
     })
+}
+
+/// The metadata in the call of the class itself, if it is decorated itself.
+fn own_metadata(
+    source: &Source,
+    lowering: Lowering,
+    class: &Node,
+) -> Result<ToldMetadata, OutOfMemory>
+    ensures { IfOk result (λ told. metadata_view told
+        ≡ own_metadata (rules_view source.now.rules) lowering (node_doc class.now)) }
+{
+    if lowering.is_decorated {
+        class_described(source, class)
+    } else {
+        Ok(undescribed())
+    }
 }
 
 /// Whether the nameless class takes a made name for itself, and is decorated.

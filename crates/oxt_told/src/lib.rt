@@ -11,6 +11,7 @@ mod extensions;
 pub mod groups;
 mod lowering;
 mod members;
+mod metadata;
 mod modules;
 mod namespaces;
 mod properties;

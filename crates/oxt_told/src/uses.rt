@@ -1,12 +1,16 @@
 //! What is told of decorators, and of names that are read as the alias of a class or as its inner name.
 ghost use Rattle.std.specs.Prelude.{◌≡◌, ◌++◌, ℕ, IfOk, OnOk, Some, option_map};
+ghost use Rattle.oxt_fields.specs.Classes.{parameters_of};
 ghost use Rattle.oxt_fields.specs.Rules.{rules_view};
 ghost use Rattle.oxt_fields.specs.Written.{number_of};
 ghost use Rattle.oxt_options.specs.Lists.{numbers_in};
+ghost use Rattle.oxt_grammar.specs.Keys.{key_of};
+ghost use Rattle.oxt_search.specs.All.{all_among};
 ghost use Rattle.oxt_told.specs.Source.{all_told};
 ghost use Rattle.oxt_told.specs.Symbols.{group_of};
 ghost use Rattle.oxt_told.specs.Tags.{class_symbol};
-ghost use Rattle.oxt_told.specs.Uses.{alias_told, called_there, decorator_told, decorators_of, decorators_told, group_uses, has_decorators, in_called, in_element, in_elements, in_heritage, in_inside, in_parameters, inner_told, inner_uses, legacy_told, parameters_told, same_group, use_at, uses_told};
+ghost use Rattle.oxt_told.specs.Uses.{alias_told, called_there, decorator_told, decorators_of, decorators_told, group_uses, has_decorators, in_annotations, in_called, in_element, in_elements, in_inside, in_parameters, in_part, in_types, inner_told, inner_uses, legacy_told, parameters_told, same_group, use_at, uses_told};
+ghost use Rattle.oxt_tree.specs.Fields.{field_of};
 ghost use Rattle.oxt_tree.specs.View.{docs_in, doc_or_nil, node_doc, part_doc};
 
 use crate::decorated::tell_default;
@@ -21,6 +25,7 @@ use oxt_fields::class::{elements_of, parameters_of};
 use oxt_grammar::field::Field;
 use oxt_grammar::holds::Row;
 use oxt_grammar::kind::Kind;
+use oxt_metadata::typing::function_field;
 use oxt_scoping::scoping::Scoping;
 use oxt_search::all::{push_all, push_among};
 use oxt_search::search::{Inside, Search, Visit};
@@ -178,7 +183,7 @@ fn tell_uses(group: u64, uses: &[NodeId], told: &mut ToldNodes) -> Result<(), Ou
 }
 
 /// The uses that mean the inner name of the class, whose name has that group: those in what it extends, and those in decorators
-/// of elements whose calls stand in it.
+/// and annotations of elements whose calls stand in it.
 #[tactic(auto, using(crate::proofs::Applying::two_appended))]
 fn inner_uses(
     source: &Source,
@@ -194,12 +199,12 @@ fn inner_uses(
         group,
     };
     let mut uses = Vec::new(source.alloc);
-    push_heritage(&search, class.field(Field::SuperClass), &mut uses)?;
+    push_part(&search, class.field(Field::SuperClass), &mut uses)?;
     push_inside(&search, lowering, class, &mut uses)?;
     Ok(uses)
 }
 
-/// Appends the uses in decorators of elements whose calls stand in the class.
+/// Appends the uses in decorators and annotations of elements whose calls stand in the class.
 #[tactic(auto, using(crate::proofs::Applying::none_more))]
 fn push_inside(
     search: &UseSearch,
@@ -217,23 +222,23 @@ fn push_inside(
     }
 }
 
-/// Appends the uses in what a class extends.
+/// Appends the uses in the part, if that is a node.
 #[tactic(auto, using(crate::proofs::Applying::none_more))]
-fn push_heritage(
+fn push_part(
     search: &UseSearch,
-    heritage: Option<&Part>,
+    part: Option<&Part>,
     uses: &mut Vec<NodeId>,
 ) -> Result<(), OutOfMemory>
     ensures { OnOk result (numbers_in uses.new.items ≡ numbers_in uses.old.items
-        ++ in_heritage (group_uses search.now.scoping.now search.now.group) (doc_or_nil heritage.entry)) }
+        ++ in_part (group_uses search.now.scoping.now search.now.group) (doc_or_nil part.entry)) }
 {
-    match heritage {
+    match part {
         Some(Part::Node(node)) => push_all(search, node, (), uses),
         _ => Ok(()),
     }
 }
 
-/// Appends the uses in decorators of the elements that give calls, and of their parameters.
+/// Appends the uses in decorators of the elements that give calls, and of their parameters, and in their annotations.
 #[tactic(auto, using(crate::proofs::Applying::element_steps))]
 fn push_elements(
     search: &UseSearch,
@@ -271,8 +276,66 @@ fn push_called(search: &UseSearch, node: &Node, uses: &mut Vec<NodeId>) -> Resul
     ensures { OnOk result (numbers_in uses.new.items ≡ numbers_in uses.old.items
         ++ in_called (group_uses search.now.scoping.now search.now.group) (node_doc node.now)) }
 {
+    push_decorators(search, node, uses)?;
+    push_annotations(search, node, uses)
+}
+
+/// Appends the uses in the decorators of the element and of its parameters.
+#[tactic(auto, using(crate::proofs::Applying::both_appended))]
+fn push_decorators(
+    search: &UseSearch,
+    node: &Node,
+    uses: &mut Vec<NodeId>,
+) -> Result<(), OutOfMemory>
+    ensures { OnOk result (numbers_in uses.new.items ≡ numbers_in uses.old.items
+        ++ (all_among (group_uses search.now.scoping.now search.now.group) (decorators_of (node_doc node.now)) tt
+        ++ in_parameters (group_uses search.now.scoping.now search.now.group) (parameters_of (node_doc node.now)))) }
+{
     push_among(search, node.list(Field::Decorators), (), uses)?;
     push_parameters(search, parameters_of(node), uses)
+}
+
+/// Appends the uses in the annotations of which the metadata of the element tells.
+#[tactic(auto, using(crate::proofs::Applying::four_appended))]
+fn push_annotations(
+    search: &UseSearch,
+    node: &Node,
+    uses: &mut Vec<NodeId>,
+) -> Result<(), OutOfMemory>
+    ensures { OnOk result (numbers_in uses.new.items ≡ numbers_in uses.old.items
+        ++ in_annotations (group_uses search.now.scoping.now search.now.group) (node_doc node.now)) }
+{
+    push_part(search, node.field(Field::TypeAnnotation), uses)?;
+    push_types(search, parameters_of(node), uses)?;
+    let rest = part_field(function_field(node, Field::Params), Field::Rest);
+    push_part(search, part_field(rest, Field::TypeAnnotation), uses)?;
+    push_part(search, function_field(node, Field::ReturnType), uses)
+}
+
+/// What that field of the part holds, if there is one.
+fn part_field(part: Option<&Part>, field: Field) -> Option<&Part>
+    ensures { doc_or_nil result ≡ field_of (key_of field) (doc_or_nil part.entry) }
+{
+    match part {
+        Some(part) => part.field(field),
+        None => None,
+    }
+}
+
+/// Appends the uses in the annotations of the parameters.
+#[tactic(auto, using(crate::proofs::Applying::in_type_steps))]
+fn push_types(
+    search: &UseSearch,
+    parameters: &[Part],
+    uses: &mut Vec<NodeId>,
+) -> Result<(), OutOfMemory>
+    ensures { OnOk result (numbers_in uses.new.items ≡ numbers_in uses.old.items
+        ++ in_types (group_uses search.now.scoping.now search.now.group) (docs_in parameters.now)) }
+{
+    for parameter in parameters {
+        push_part(search, parameter.field(Field::TypeAnnotation), uses)?;
+    }
+    Ok(())
 }
 
 /// Appends the uses in decorators of the parameters.

@@ -20,7 +20,6 @@ use Rattle.oxt_faults.specs.Misplaced.{Misplacement}
 use Rattle.oxt_fields.specs.Rules.{Rules}
 use Rattle.oxt_tree.specs.Syntax.{is_definition_file}
 use Rattle.oxt_options.specs.Options.{TransformData}
-use Rattle.oxt_modules.specs.Kept.{kept}
 use Rattle.oxt_options.specs.Facts.{Answers, Facts, is_in}
 use Rattle.oxt_told.specs.Source.{Asked, asked_of}
 use Rattle.oxt_resolve.specs.Resolved.{resolved}
@@ -146,9 +145,11 @@ asked_same known listed a =
     let inlined = fun_ext a.inlined in
     let never = fun_ext a.never_written in
     let alias = fun_ext a.aliases in
+    let metadata = fun_ext a.metadata in
+    let written = fun_ext a.written in
     cc
 
-module _ (o : TransformData) (source : Doc) (known : Facts) (s : Scoped) (table : s ≡ resolved source) (a : Answers known (facts_of s source o)) where
+module _ (o : TransformData) (source : Doc) (known : Facts) (s : Scoped) (table : s ≡ resolved o.decorator.legacy source) (a : Answers known (facts_of s source o)) where
   -- what is expected of the output, by the tables that the program made
   expected_same : expected_by s (asked_of known) o source ≡ expected_of o source
   expected_same =
@@ -159,7 +160,7 @@ module _ (o : TransformData) (source : Doc) (known : Facts) (s : Scoped) (table 
   pub told_same : diagnostics (is_in known.kept) o source ≡ diagnostics (keeps o source) o source
   told_same = ap (λ (p : Asked). diagnostics p.kept o source) (asked_same known (facts_of s source o) a ∙ ap (λ t. asked_by t o source) table)
 
-module _ (o : TransformData) (source output : Doc) (known : Facts) (s : Scoped) (table : s ≡ resolved source) (a : Answers known (facts_of s source o))
+module _ (o : TransformData) (source output : Doc) (known : Facts) (s : Scoped) (table : s ≡ resolved o.decorator.legacy source) (a : Answers known (facts_of s source o))
     (faultless : fault_of o source ≡ None) where
   abbrev x : ExpectedData
   x = expected_by s (asked_of known) o source
@@ -209,13 +210,13 @@ fits false None None None d = refl
 
 -- the rules by which the fields of a source are lowered
 abbrev rules_in : TransformData → Doc → Rules
-rules_in o source = rules_by (facts_of (resolved source) source o) o
+rules_in o source = rules_by (facts_of (resolved o.decorator.legacy source) source o) o
 
 source_fits : (o : TransformData) (source : Doc) (r : Refusal) → fault_of o source ≡ Some r → is_of_source r ≡ true
-source_fits o source r h = sym (ap fits_source h) ∙ fits (is_definition_file source) (first_misplacement (resolved source) (rules_in o source) source) (wide (rules_in o source).legacy (resolved source) source) (first_capture (resolved source) (rules_in o source) (is_in (kept (resolved source) source o.typescript o.decorator.legacy)) source) source
+source_fits o source r h = sym (ap fits_source h) ∙ fits (is_definition_file source) (first_misplacement (resolved o.decorator.legacy source) (rules_in o source) source) (wide (rules_in o source).legacy (resolved o.decorator.legacy source) source) (first_capture (resolved o.decorator.legacy source) (rules_in o source) (is_in (facts_of (resolved o.decorator.legacy source) source o).kept) source) source
 
 -- a fault of the source
-pub fault_hinders : (came : Option Refusal) (o : TransformData) (source : Doc) → IsFaultOf came (resolved source) source o → IsHindrance came o source
+pub fault_hinders : (came : Option Refusal) (o : TransformData) (source : Doc) → IsFaultOf came (resolved o.decorator.legacy source) source o → IsHindrance came o source
 fault_hinders came o source h = hinders came h
   where
     named : (r : Refusal) → fault_of o source ≡ Some r → Hinders r o source
@@ -226,16 +227,16 @@ fault_hinders came o source h = hinders came h
     named (captured_name name place) h = h
     named (uncertified d) h = absurd (false_true (source_fits o source (uncertified d) h))
 
-    hinders : (came : Option Refusal) → IsFaultOf came (resolved source) source o → IsHindrance came o source
+    hinders : (came : Option Refusal) → IsFaultOf came (resolved o.decorator.legacy source) source o → IsHindrance came o source
     hinders None h = tt
     hinders (Some r) h = named r h
 
 -- ---- where nothing is told
 
 -- plain beside no wrappers is plain
-plain_then : (ks : ℕ → Bool) (o : TransformData) (source output : Doc) → is_plain_output (targets source) output ≡ true → tells_of_wrapper (diagnostics ks o source) ≡ false → is_plain output ≡ true
+plain_then : (ks : ℕ → Bool) (o : TransformData) (source output : Doc) → is_plain_output (targets o.decorator.legacy source) output ≡ true → tells_of_wrapper (diagnostics ks o source) ≡ false → is_plain output ≡ true
 plain_then ks o source output h none =
-    sym (plain_beside_nothing output (holds.Node category.Program) (is_listed (targets source)) (λ n. ap (λ ts. is_listed ts n) (no_targets ks o source none))) ∙ h
+    sym (plain_beside_nothing output (holds.Node category.Program) (is_listed (targets o.decorator.legacy source)) (λ n. ap (λ ts. is_listed ts n) (no_targets ks o source none))) ∙ h
 
 -- ---- the settings
 

@@ -1,5 +1,5 @@
 -- What is known of a source, with which its output is compared.
-use Rattle.std.specs.Prelude.{ℕ, List, [], Bool, Option}
+use Rattle.std.specs.Prelude.{ℕ, List, [], Bool, Option, false}
 use Rattle.oxt_check.specs.Faults.{facts_of, first_fault}
 use Rattle.oxt_check.specs.Refusals.{Refusal}
 use Rattle.oxt_facts.specs.Facts.{Known, of_output, of_told_source}
@@ -9,6 +9,7 @@ use Rattle.oxt_told.specs.Source.{Asked}
 use Rattle.oxt_told.specs.Whole.{told_of_source}
 use Rattle.oxt_options.specs.Options.{TransformData}
 use Rattle.oxt_options.specs.Facts.{Facts, is_in, last_alias, last_constant}
+use Rattle.oxt_options.specs.Metadata.{last_type}
 use Rattle.oxt_resolve.specs.Resolved.{resolved}
 use Rattle.oxt_scoping.specs.Scoped.{Scoped}
 use Rattle.oxt_check.specs.Targets.{targets}
@@ -22,7 +23,7 @@ use Rattle.oxt_word.specs.Word.{word}
 
 -- the first fault of a source under the options
 abbrev pub fault_of : TransformData → Doc → Option Refusal
-fault_of o source = first_fault (resolved source) source o
+fault_of o source = first_fault (resolved o.decorator.legacy source) source o
 
 -- the names of a source
 abbrev pub names_of : Doc → List (List ℕ)
@@ -38,6 +39,8 @@ listed_in l =
       inlined = last_constant l.inlined;
       never = is_in l.never_written;
       alias = last_alias l.aliases;
+      metadata = last_type l.metadata;
+      written = last_alias l.written;
     }
 
 -- what is asked of the nodes of a source, of which that is the table of scopes and symbols, under the options
@@ -45,7 +48,7 @@ abbrev pub asked_by : Scoped → TransformData → Doc → Asked
 asked_by s o source = listed_in (facts_of s source o)
 
 abbrev pub asked : TransformData → Doc → Asked
-asked o source = asked_by (resolved source) o source
+asked o source = asked_by (resolved o.decorator.legacy source) o source
 
 -- what of imports and exports is kept under the options, by the numbers of the nodes
 abbrev pub keeps : TransformData → Doc → ℕ → Bool
@@ -65,11 +68,11 @@ source_word_by s p o source = word (of_told_source (told_of_source s p o source)
 
 -- the effect word of a source under the options
 abbrev pub source_word : TransformData → Doc → List Entry
-source_word o source = source_word_by (resolved source) (asked o source) o source
+source_word o source = source_word_by (resolved o.decorator.legacy source) (asked o source) o source
 
 -- what is known of the names of what was made of a source that has these names: which are made, and their groups
 abbrev pub known_of_output : List (List ℕ) → Doc → Known
-known_of_output names output = of_output names (groups_of (resolved output) output) output
+known_of_output names output = of_output names (groups_of (resolved false output) output) output
 
 -- the effect word of what was made of a source that has these names
 abbrev pub output_word : List (List ℕ) → Doc → List Entry
@@ -100,9 +103,9 @@ expected_by s p o source =
       word = source_word_by s p o source;
       names = names_of source;
       settings = settings_by (due_by p o source) o.decorator.legacy source;
-      staying = targets source;
+      staying = targets o.decorator.legacy source;
     }
 
 -- what is expected of the output of a source under the options
 abbrev pub expected_of : TransformData → Doc → ExpectedData
-expected_of o source = expected_by (resolved source) (asked o source) o source
+expected_of o source = expected_by (resolved o.decorator.legacy source) (asked o source) o source

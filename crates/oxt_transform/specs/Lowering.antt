@@ -51,7 +51,7 @@ pub record Lowers (options : TransformData) (bytes : List ℕ) (told : List OxcD
   pub spelled : reading bytes ≡ tree source next
   pub all_told : told ≡ diagnostics (keeps options source) options source
   pub valid : is_tree output ≡ true
-  pub plain_beside : is_plain_beside output (holds.Node category.Program) (is_listed (targets source)) ≡ true
+  pub plain_beside : is_plain_beside output (holds.Node category.Program) (is_listed (targets options.decorator.legacy source)) ≡ true
   pub plain : tells_of_wrapper told ≡ false → is_plain output ≡ true
   pub settings : wrong_setting (settings_by (is_due options source) options.decorator.legacy source) output ≡ None
   pub undecorated : options.decorator.legacy ≡ true → has_decorator output ≡ false

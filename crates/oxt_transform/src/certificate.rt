@@ -1,5 +1,5 @@
 //! The test of a lowered tree, before it is written.
-ghost use Rattle.std.specs.Prelude.{◌≡◌, IfErr, IfOk, None, OnOk, option_map};
+ghost use Rattle.std.specs.Prelude.{◌≡◌, IfErr, IfOk, None, OnOk, false, option_map};
 ghost use Rattle.oxt_check.specs.Faults.{refusal_in};
 ghost use Rattle.oxt_facts.specs.Entry.{entries};
 ghost use Rattle.oxt_transform.specs.Expected.{expected_view, known_of_output};
@@ -99,9 +99,9 @@ fn facts_of_output(alloc: Global, names: &UidNames, output: &Node) -> Result<Fac
 
 /// The groups that the names of the output mean and declare.
 fn groups_of_tree(alloc: Global, output: &Node) -> Result<NameGroups, OutOfMemory>
-    ensures { IfOk result (λ groups. groups ≡ groups_of (resolved (node_doc output.now)) (node_doc output.now)) }
+    ensures { IfOk result (λ groups. groups ≡ groups_of (resolved false (node_doc output.now)) (node_doc output.now)) }
 {
-    match resolve(alloc, output) {
+    match resolve(alloc, output, false) {
         Ok(scoping) => {
             let groups = groups_of(alloc, output, &scoping);
             drop_table(scoping);

@@ -53,8 +53,9 @@ impl Expected {
     {
         let word = source_word(alloc, source, scoping, plan, options)?;
         let due = is_due(source, plan, options);
-        let settings = Settings::of(alloc, source, due, options.decorator.legacy)?;
-        let targets = WrappedTargets::of(alloc, source)?;
+        let legacy = options.decorator.legacy;
+        let settings = Settings::of(alloc, source, due, legacy)?;
+        let targets = WrappedTargets::of(alloc, source, legacy)?;
         let names = UidNames::of_tree(alloc, source)?;
         Ok(Expected {
             word,

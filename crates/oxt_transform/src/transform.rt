@@ -80,8 +80,6 @@ impl TransformerReturn {
 ///
 /// A wrapper around a target that may not be assigned to stays, and a diagnostic tells of it.
 ///
-/// Of the options `emit_decorator_metadata` and `strict_null_checks` do not act yet.
-///
 /// # Errors
 ///
 /// The first reason in the order of `Fault`'s variants after want of memory, which may come at any step.
@@ -201,14 +199,14 @@ fn resolve_and_check(
     program: &Program,
     options: &TransformOptions,
 ) -> Result<Tables, Fault>
-    ensures table { IfOk result (λ t. t.scoping ≡ resolved (node_doc program.now.root)) }
+    ensures table { IfOk result (λ t. t.scoping ≡ resolved options.now.decorator.legacy (node_doc program.now.root)) }
     ensures plan { IfOk result (λ t. Answers t.plan
         (facts_of t.scoping (node_doc program.now.root) (transform_view options.now))) }
     ensures accepted { OnOk result (fault_of (transform_view options.now) (node_doc program.now.root) ≡ None) }
     ensures refused { IfErr result (λ f. IsFaultOf (refusal_in f)
-        (resolved (node_doc program.now.root)) (node_doc program.now.root) (transform_view options.now)) }
+        (resolved options.now.decorator.legacy (node_doc program.now.root)) (node_doc program.now.root) (transform_view options.now)) }
 {
-    match resolve(alloc, &program.root) {
+    match resolve(alloc, &program.root, options.decorator.legacy) {
         Ok(scoping) => check_resolved(alloc, program, scoping, options),
         Err(_) => Err(Fault::OutOfMemory),
     }

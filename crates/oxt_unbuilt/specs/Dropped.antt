@@ -39,7 +39,11 @@ is_dropped (node k i b e ds) = is_dropped_by k ds
 abbrev pub is_declared_field : Kind → Docs → Bool
 is_declared_field k ds = same_kind k kind.PropertyDefinition && is_set (named (codes "declare") k ds)
 
+-- the decorators of such a node outlive it: it is a field that is only declared, where they have their older meaning
+abbrev pub keeps_decorators : Bool → Kind → Docs → Bool
+keeps_decorators legacy k ds = legacy && is_declared_field k ds
+
 -- What a search reaches inside such a node, in the state `s`: nothing but the decorators of a field that is only declared, where
 -- the flag says that decorators have their older meaning.
 abbrev pub inside_dropped_by : {S : Type 0} → Bool → Kind → Docs → S → Inside S
-inside_dropped_by legacy k ds s = if legacy && is_declared_field k ds then inside.Only field.Decorators s else inside.Skipped
+inside_dropped_by legacy k ds s = if keeps_decorators legacy k ds then inside.Only field.Decorators s else inside.Skipped

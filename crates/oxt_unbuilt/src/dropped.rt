@@ -1,6 +1,6 @@
 //! Declarations and class elements that stand for nothing at run time.
 ghost use Rattle.std.specs.Prelude.{◌≡◌};
-ghost use Rattle.oxt_unbuilt.specs.Dropped.{inside_dropped_by, is_declared_field, is_droppable, is_dropped, is_namespace_of_types};
+ghost use Rattle.oxt_unbuilt.specs.Dropped.{inside_dropped_by, is_declared_field, is_droppable, is_dropped, is_namespace_of_types, keeps_decorators};
 ghost use Rattle.oxt_tree.specs.View.{docs_in, node_doc, part_doc};
 
 use oxt_declares::types_alone::is_node_of_types;
@@ -30,11 +30,19 @@ fn is_namespace_of_types(node: &Node) -> bool
 pub fn inside_dropped<S: Copy>(legacy: bool, node: &Node, state: S) -> Inside<S>
     ensures { result ≡ inside_dropped_by legacy node.now.kind (docs_in node.now.parts.items) state }
 {
-    if legacy && is_declared_field(node) {
+    if keeps_decorators(legacy, node) {
         Inside::Only(Field::Decorators, state)
     } else {
         Inside::Skipped
     }
+}
+
+/// Whether the decorators of the node outlive it: it is a field that is only declared, and `legacy` says that decorators have
+/// their older meaning.
+pub fn keeps_decorators(legacy: bool, node: &Node) -> bool
+    ensures { result ≡ keeps_decorators legacy node.now.kind (docs_in node.now.parts.items) }
+{
+    legacy && is_declared_field(node)
 }
 
 /// Whether the node is a field that is only declared.

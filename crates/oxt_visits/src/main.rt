@@ -39,7 +39,7 @@ fn main(rt: HostRuntime) -> Result<()> {
 
 // The lines of the hooks that a walk of the program runs.
 fn lines_of(alloc: Global, mut program: Program) -> Result<String, OutOfMemory> {
-    let scoping = resolve(alloc, &program.root)?;
+    let scoping = resolve(alloc, &program.root, false)?;
     let options = TransformOptions::defaults(alloc)?;
     let state = TransformState::new(&options, false);
     let mut ctx = TraverseCtx::new(alloc, scoping, Plan::empty(alloc), state, program.ids);

@@ -1,6 +1,7 @@
 -- How accessors are read that become a field, a getter and a setter.
 use Rattle.std.specs.Prelude.{ℕ, List, [], ◌∷◌, ◌++◌, Bool, true, false, if◌then◌else◌, Option, None, Some, codes}
 use Rattle.oxt_facts.specs.Entry.{Entry, binding_text, detailed, lone, owned, spelled}
+use Rattle.oxt_facts.specs.Facts.{Known}
 use Rattle.oxt_facts.specs.Told.{Accessing, Holder, Storage, plain, kept, this, used}
 use Rattle.oxt_facts.specs.declared.item.Binding.TheVariants as binding
 use Rattle.oxt_facts.specs.declared.item.ItemKind.TheVariants as item
@@ -108,12 +109,12 @@ setter_word a c =
 
 -- An accessor is the keys of its getter and setter, its field, the put of the field's value where that belongs, the two methods, and
 -- the call that it gives.
-abbrev pub accessor_word : Accessing → Way → Rule → OneField → List Entry
-accessor_word a way.Keys r c = getter_key a.storage (tag_of a.call) c ++ setter_key a.storage c
-accessor_word a way.Statics r c =
+abbrev pub accessor_word : Known → Accessing → Way → Rule → OneField → List Entry
+accessor_word f a way.Keys r c = getter_key a.storage (tag_of a.call) c ++ setter_key a.storage c
+accessor_word f a way.Statics r c =
     if a.is_static then storage_field true a.storage (c (codes "value") way.Whole) else []
-accessor_word a way.Fields r c = if a.is_static then [] else instance_storage a.moves a.storage c
-accessor_word a way.Puts r c = if a.moves then storage_put a.storage c else []
-accessor_word a way.Methods r c = getter_word a c ++ setter_word a c
-accessor_word a way.Calls r c = given_call a.call r c
-accessor_word a w r c = []
+accessor_word f a way.Fields r c = if a.is_static then [] else instance_storage a.moves a.storage c
+accessor_word f a way.Puts r c = if a.moves then storage_put a.storage c else []
+accessor_word f a way.Methods r c = getter_word a c ++ setter_word a c
+accessor_word f a way.Calls r c = given_call f a.call r c
+accessor_word f a w r c = []

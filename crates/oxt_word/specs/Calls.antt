@@ -1,7 +1,8 @@
 -- How the calls are read that decorators give, the elements of classes that give them, and the names by which classes are called.
 use Rattle.std.specs.Prelude.{ℕ, List, [], ◌∷◌, ◌++◌, Bool, true, false, not, ◌&&◌, if◌then◌else◌, Option, None, Some, codes}
 use Rattle.oxt_facts.specs.Entry.{Entry, detail, detailed, lone, owned, spelled}
-use Rattle.oxt_facts.specs.Told.{Calling, Element, Use, name_use, made_use}
+use Rattle.oxt_facts.specs.Facts.{Known}
+use Rattle.oxt_facts.specs.Told.{Calling, Described, Element, Use, name_use, made_use}
 use Rattle.oxt_facts.specs.declared.item.ItemKind.TheVariants as item
 use Rattle.oxt_forms.specs.Details.{start}
 use Rattle.oxt_grammar.specs.declared.kind.Kind.{Kind}
@@ -9,7 +10,8 @@ use Rattle.oxt_grammar.specs.declared.kind.Kind.TheVariants as kind
 use Rattle.oxt_tree.specs.Doc.{Docs, flag, nil, number, text}
 use Rattle.oxt_tree.specs.Fields.{first, named}
 use Rattle.oxt_word.specs.Enums.{use_word}
-use Rattle.oxt_word.specs.Modules.{free_word}
+use Rattle.oxt_word.specs.Helpers.{helper_start}
+use Rattle.oxt_word.specs.Metadata.{metadata_word, void_word}
 use Rattle.oxt_word.specs.Node.{OneField, AllFields}
 use Rattle.oxt_word.specs.Ways.{is_constructor}
 use Rattle.oxt_word.specs.declared.rule.Rule.{Rule}
@@ -38,12 +40,6 @@ inner_word g w ds = owned (Some g) item.Name (detail (first ds)) []
 abbrev pub kept_word : Option (List ℕ) → List Entry
 kept_word None = []
 kept_word (Some t) = spelled item.Keep (text t)
-
--- the start of a call of that function of `babelHelpers`
-unfoldable pub helper_start : List ℕ → List Entry
-helper_start x =
-    start kind.CallExpression (flag false ∷ flag false ∷ [])
-    ++ (free_word (codes "babelHelpers") ++ (spelled item.Str (text x) ++ spelled item.Get (flag false)))
 
 -- A decorator that is applied is its expression, or for a parameter the call that decorates the one at that place. In every other
 -- way it is nothing.
@@ -77,9 +73,10 @@ abbrev pub decorators_word : Rule → OneField → List Entry
 decorators_word rule.Method c = c (codes "decorators") way.Applied ++ c (codes "value") way.Applied
 decorators_word r c = c (codes "decorators") way.Applied
 
--- the list of these
-abbrev pub decorators_list : Rule → OneField → List Entry
-decorators_list r c = start kind.ArrayExpression [] ++ (decorators_word r c ++ lone item.Close)
+-- the list of these, with that metadata last
+abbrev pub decorators_list : Known → Described → Rule → OneField → List Entry
+decorators_list f m r c =
+    start kind.ArrayExpression [] ++ (decorators_word r c ++ (metadata_word f m ++ lone item.Close))
 
 -- the object that has the element: the class itself, or that of its instances
 abbrev pub receiver_word : Use → Bool → List Entry
@@ -99,20 +96,20 @@ subject_word m c = receiver_word m.class m.is_static ++ called_key m.tag m.is_pr
 -- its description: `void 0` of a field, and `null` of others
 abbrev pub description_word : Bool → List Entry
 description_word b =
-    if b then start kind.UnaryExpression (text (codes "void") ∷ []) ++ (spelled item.Num (number 0) ++ lone item.Close)
+    if b then void_word
     else start kind.NullLiteral [] ++ lone item.Close
 
 -- the call that an element of a class gives
-abbrev pub calling_word : Calling → Rule → OneField → List Entry
-calling_word m r c =
+abbrev pub calling_word : Known → Calling → Rule → OneField → List Entry
+calling_word f m r c =
     helper_start (codes "decorate")
-    ++ (decorators_list r c
+    ++ (decorators_list f m.metadata r c
     ++ (subject_word m c ++ (description_word m.is_field ++ (lone item.Close ++ lone item.Eval))))
 
 -- the same, if it gives one
-abbrev pub given_call : Option Calling → Rule → OneField → List Entry
-given_call None r c = []
-given_call (Some m) r c = calling_word m r c
+abbrev pub given_call : Known → Option Calling → Rule → OneField → List Entry
+given_call f None r c = []
+given_call f (Some m) r c = calling_word f m r c
 
 -- the tag by which the key of such an element is kept, if it is
 abbrev pub tag_of : Option Calling → Option (List ℕ)
@@ -153,6 +150,6 @@ staying_word None m w k ds own c = own
 staying_word (Some t) m w k ds own c = tagged_word t m w k ds own c
 
 -- An element that gives a call is that call, and itself, if it stays.
-abbrev pub called_word : Element → Way → Rule → Kind → Docs → List Entry → OneField → List Entry
-called_word e way.Calls r k ds own c = calling_word e.call r c
-called_word e w r k ds own c = if e.stays then staying_word e.call.tag e.call w k ds own c else []
+abbrev pub called_word : Known → Element → Way → Rule → Kind → Docs → List Entry → OneField → List Entry
+called_word f e way.Calls r k ds own c = calling_word f e.call r c
+called_word f e w r k ds own c = if e.stays then staying_word e.call.tag e.call w k ds own c else []

@@ -137,15 +137,15 @@ moved_key (Some t) s o c = c (codes "key") way.Whole ++ spelled item.Keep (text 
 
 -- A field that moves is its key, the put of its value where that belongs, where it stays an empty field, and the call that it
 -- gives.
-abbrev pub moving_word : Moving → Way → Rule → OneField → List Entry
-moving_word m way.Keys r c = if m.is_last then [] else moved_key m.tag m.stays (tag_of m.call) c
-moving_word m way.Last r c = if m.is_last then moved_key m.tag m.stays (tag_of m.call) c else []
-moving_word m way.Statics r c = if m.is_static then field_put m.tag c else []
-moving_word m way.Fields r c =
+abbrev pub moving_word : Known → Moving → Way → Rule → OneField → List Entry
+moving_word f m way.Keys r c = if m.is_last then [] else moved_key m.tag m.stays (tag_of m.call) c
+moving_word f m way.Last r c = if m.is_last then moved_key m.tag m.stays (tag_of m.call) c else []
+moving_word f m way.Statics r c = if m.is_static then field_put m.tag c else []
+moving_word f m way.Fields r c =
     if m.stays then empty_field m.is_static (element_text (tag_of m.call) c) else []
-moving_word m way.Puts r c = if m.is_static then [] else field_put m.tag c
-moving_word m way.Calls r c = given_call m.call r c
-moving_word m w r c = []
+moving_word f m way.Puts r c = if m.is_static then [] else field_put m.tag c
+moving_word f m way.Calls r c = given_call f m.call r c
+moving_word f m w r c = []
 
 -- A field that goes, but for the effects of its key, is its key, which is dropped.
 abbrev pub left_word : Bool → Way → OneField → List Entry

@@ -1,15 +1,18 @@
 -- How classes are read that are decorated, or whose elements are, with what is called behind them.
 use Rattle.std.specs.Prelude.{ℕ, List, [], ◌∷◌, ◌++◌, Bool, true, false, if◌then◌else◌, Option, None, Some, codes}
 use Rattle.oxt_facts.specs.Entry.{Entry, binding_text, detailed, lone, owned, spelled}
-use Rattle.oxt_facts.specs.Told.{Decorating, Use, name_use, made_use}
+use Rattle.oxt_facts.specs.Facts.{Known}
+use Rattle.oxt_facts.specs.Told.{Decorating, Described, Use, name_use, made_use}
 use Rattle.oxt_facts.specs.declared.item.Binding.{Binding}
 use Rattle.oxt_facts.specs.declared.item.Binding.TheVariants as binding
 use Rattle.oxt_facts.specs.declared.item.ItemKind.TheVariants as item
 use Rattle.oxt_forms.specs.Details.{start}
 use Rattle.oxt_grammar.specs.declared.kind.Kind.TheVariants as kind
 use Rattle.oxt_tree.specs.Doc.{flag, text}
-use Rattle.oxt_word.specs.Calls.{helper_start, kept_word, used_word}
+use Rattle.oxt_word.specs.Calls.{kept_word, used_word}
 use Rattle.oxt_word.specs.Enums.{is_exported, use_word}
+use Rattle.oxt_word.specs.Helpers.{helper_start}
+use Rattle.oxt_word.specs.Metadata.{metadata_word}
 use Rattle.oxt_word.specs.Node.{OneField}
 use Rattle.oxt_word.specs.Whole.{class_parts}
 use Rattle.oxt_word.specs.declared.way.Way.{Way}
@@ -68,24 +71,27 @@ set_class d c =
     ++ (lone item.Close
     ++ (kept_there d.keeps_alias d.alias ++ (lone item.Set ++ class_bind d.name binding.Let false c)))))
 
--- the call of the decorators of a class and of the parameters of its constructor
-abbrev pub class_call : Use → OneField → List Entry
-class_call u c =
-    helper_start (codes "decorate")
-    ++ (start kind.ArrayExpression []
+-- the decorators of a class and of the parameters of its constructor, with that metadata last
+abbrev pub class_list : Known → Described → OneField → List Entry
+class_list f m c =
+    start kind.ArrayExpression []
     ++ (c (codes "decorators") way.Applied
-    ++ (c (codes "body") way.Injected ++ (lone item.Close ++ (used_word u ++ lone item.Close)))))
+    ++ (c (codes "body") way.Injected ++ (metadata_word f m ++ lone item.Close)))
+
+-- the call of these
+abbrev pub class_call : Known → Described → Use → OneField → List Entry
+class_call f m u c = helper_start (codes "decorate") ++ (class_list f m c ++ (used_word u ++ lone item.Close))
 
 -- that call is assigned to the name of the class, and a made name holds it, if one holds the class
-abbrev pub assigned_call : Use → Option (List ℕ) → OneField → List Entry
-assigned_call (name_use n g) a c =
+abbrev pub assigned_call : Known → Described → Use → Option (List ℕ) → OneField → List Entry
+assigned_call f m (name_use n g) a c =
     start kind.AssignmentExpression (text (codes "=") ∷ [])
-    ++ (use_word n g ++ (class_call (name_use n g) c ++ (kept_word a ++ (lone item.Close ++ lone item.Eval))))
-assigned_call (made_use t) a c = class_call (made_use t) c ++ (kept_word a ++ spelled item.Keep (text t))
+    ++ (use_word n g ++ (class_call f m (name_use n g) c ++ (kept_word a ++ (lone item.Close ++ lone item.Eval))))
+assigned_call f m (made_use t) a c = class_call f m (made_use t) c ++ (kept_word a ++ spelled item.Keep (text t))
 
-abbrev pub own_call : Option Use → Option (List ℕ) → OneField → List Entry
-own_call None a c = []
-own_call (Some u) a c = assigned_call u a c
+abbrev pub own_call : Known → Described → Option Use → Option (List ℕ) → OneField → List Entry
+own_call f m None a c = []
+own_call f m (Some u) a c = assigned_call f m u a c
 
 -- a name that is exported behind its declaration
 abbrev pub exported_name : List ℕ → Option ℕ → List Entry
@@ -104,16 +110,17 @@ exported_behind x None = []
 exported_behind x (Some u) = if x then exported_use u else []
 
 -- A decorated class is set, its elements are decorated, and then it itself; it is exported behind that.
-abbrev pub decorated_class : Decorating → Way → OneField → List Entry
-decorated_class d w c =
+abbrev pub decorated_class : Known → Decorating → Way → OneField → List Entry
+decorated_class f d w c =
     set_class d c
-    ++ (calls_behind d.has_calls w c ++ (own_call d.name d.alias c ++ exported_behind (is_exported w) d.name))
+    ++ (calls_behind d.has_calls w c
+    ++ (own_call f d.metadata d.name d.alias c ++ exported_behind (is_exported w) d.name))
 
 -- A class with calls behind it, or a decorated one; or these calls alone.
-abbrev pub decorated_word : Decorating → Way → OneField → List Entry
-decorated_word d way.Calls c = element_calls d.has_calls c
-decorated_word d w c =
-    if d.is_decorated then decorated_class d w c
+abbrev pub decorated_word : Known → Decorating → Way → OneField → List Entry
+decorated_word f d way.Calls c = element_calls d.has_calls c
+decorated_word f d w c =
+    if d.is_decorated then decorated_class f d w c
     else declared_class d.name (is_exported w) c ++ calls_behind d.has_calls w c
 
 -- A nameless expression of a class has the made name of that tag inside.

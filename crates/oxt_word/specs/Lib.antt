@@ -4,6 +4,8 @@ pub mod Classes
 pub mod Decorated
 pub mod Enums
 pub mod Erased
+pub mod Helpers
+pub mod Metadata
 pub mod Modules
 pub mod Node
 pub mod RuleOf

@@ -340,7 +340,7 @@ pub(crate) fn put_accessor(
     out: &mut Vec<Item>,
 ) -> Result<(), OutOfMemory>
     ensures { OnOk result (entries out.new.items ≡ entries out.old.items
-        ++ accessor_word (accessing_view accessor.now) way (rule_of node.now.kind) (each_field facts.now node.now)) }
+        ++ accessor_word facts.now (accessing_view accessor.now) way (rule_of node.now.kind) (each_field facts.now node.now)) }
 {
     match way {
         Way::Keys => {

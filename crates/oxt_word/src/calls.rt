@@ -2,15 +2,17 @@
 //! elements themselves.
 ghost use Rattle.std.specs.Prelude.{◌≡◌, [], ◌++◌, OnOk, codes, false, option_map};
 ghost use Rattle.oxt_facts.specs.Entry.{entries, lone, spelled};
-ghost use Rattle.oxt_facts.specs.Told.{calling_view, element_view, use_view};
+ghost use Rattle.oxt_facts.specs.Told.{calling_view, element_view, metadata_view, use_view};
 ghost use Rattle.oxt_tree.specs.Doc.{flag, number, text};
 ghost use Rattle.oxt_tree.specs.Names.{name_bytes};
 ghost use Rattle.oxt_tree.specs.View.{docs_in};
-ghost use Rattle.oxt_word.specs.Calls.{alias_word, applied_word, called_key, called_word, calling_word, decorator_word, decorators_list, decorators_word, description_word, element_text, given_call, helper_start, injected_word, inner_word, kept_key, kept_word, keyless_field, keyless_method, receiver_word, staying_word, subject_word, tag_of, tagged_word, through_word, used_word};
+ghost use Rattle.oxt_word.specs.Calls.{alias_word, applied_word, called_key, called_word, calling_word, decorator_word, decorators_list, decorators_word, description_word, element_text, given_call, injected_word, inner_word, kept_key, kept_word, keyless_field, keyless_method, receiver_word, staying_word, subject_word, tag_of, tagged_word, through_word, used_word};
+ghost use Rattle.oxt_word.specs.Helpers.{helper_start};
 ghost use Rattle.oxt_word.specs.RuleOf.{rule_of};
 ghost use Rattle.oxt_word.specs.Word.{all_fields, each_field, own_word};
 
-use crate::enums::{put_operation, put_use};
+use crate::enums::put_use;
+use crate::metadata::{put_metadata, put_void};
 use crate::modules::{put_call_start, put_free};
 use crate::namespaces::put_made;
 use crate::rule::Rule;
@@ -19,7 +21,7 @@ use crate::way::Way;
 use crate::word::{put_field, put_fields, put_own};
 use oxt_facts::facts::Facts;
 use oxt_facts::item::{Atom, Item, ItemKind};
-use oxt_facts::told::{ToldCall, ToldElement, ToldUse};
+use oxt_facts::told::{ToldCall, ToldElement, ToldMetadata, ToldUse};
 use oxt_forms::put::{
     field_atom, first_atom, put_field_start, put_lone, put_owned, put_spelled, put_start,
 };
@@ -138,7 +140,7 @@ pub(crate) fn put_helper_start(
 }
 
 /// Puts the read of the member of that name.
-fn put_member(alloc: Global, name: &str, out: &mut Vec<Item>) -> Result<(), OutOfMemory>
+pub(crate) fn put_member(alloc: Global, name: &str, out: &mut Vec<Item>) -> Result<(), OutOfMemory>
     ensures { OnOk result (entries out.new.items ≡ entries out.old.items
         ++ (spelled ItemKind.Str (text name.now) ++ spelled ItemKind.Get (flag false))) }
 {
@@ -269,14 +271,20 @@ fn put_decorators(
     }
 }
 
-/// Puts the list of these.
+/// Puts the list of these, with that metadata last.
 #[cycle(word)]
-fn put_decorators_list(facts: &Facts, node: &Node, out: &mut Vec<Item>) -> Result<(), OutOfMemory>
+fn put_decorators_list(
+    facts: &Facts,
+    metadata: &ToldMetadata,
+    node: &Node,
+    out: &mut Vec<Item>,
+) -> Result<(), OutOfMemory>
     ensures { OnOk result (entries out.new.items ≡ entries out.old.items
-        ++ decorators_list (rule_of node.now.kind) (each_field facts.now node.now)) }
+        ++ decorators_list facts.now (metadata_view metadata.now) (rule_of node.now.kind) (each_field facts.now node.now)) }
 {
     put_start(Kind::ArrayExpression, Vec::new(facts.memory()), out)?;
     put_decorators(facts, rule_of(node.kind), node, out)?;
+    put_metadata(facts, metadata, out)?;
     put_lone(facts.memory(), ItemKind::Close, out)
 }
 
@@ -342,9 +350,7 @@ fn put_description(alloc: Global, is_field: bool, out: &mut Vec<Item>) -> Result
     ensures { OnOk result (entries out.new.items ≡ entries out.old.items ++ description_word is_field) }
 {
     if is_field {
-        put_operation(alloc, Kind::UnaryExpression, "void", out)?;
-        put_spelled(alloc, ItemKind::Num, Atom::Number(0), out)?;
-        return put_lone(alloc, ItemKind::Close, out);
+        return put_void(alloc, out);
     }
     put_start(Kind::NullLiteral, Vec::new(alloc), out)?;
     put_lone(alloc, ItemKind::Close, out)
@@ -359,11 +365,11 @@ fn put_calling(
     out: &mut Vec<Item>,
 ) -> Result<(), OutOfMemory>
     ensures { OnOk result (entries out.new.items ≡ entries out.old.items
-        ++ calling_word (calling_view call.now) (rule_of node.now.kind) (each_field facts.now node.now)) }
+        ++ calling_word facts.now (calling_view call.now) (rule_of node.now.kind) (each_field facts.now node.now)) }
 {
     let alloc = facts.memory();
     put_helper_start(alloc, "decorate", out)?;
-    put_decorators_list(facts, node, out)?;
+    put_decorators_list(facts, &call.metadata, node, out)?;
     put_subject(facts, call, node, out)?;
     put_description(alloc, call.is_field, out)?;
     put_lone(alloc, ItemKind::Close, out)?;
@@ -379,7 +385,7 @@ pub(crate) fn put_given(
     out: &mut Vec<Item>,
 ) -> Result<(), OutOfMemory>
     ensures { OnOk result (entries out.new.items ≡ entries out.old.items
-        ++ given_call (option_map calling_view call.now) (rule_of node.now.kind) (each_field facts.now node.now)) }
+        ++ given_call facts.now (option_map calling_view call.now) (rule_of node.now.kind) (each_field facts.now node.now)) }
 {
     match call {
         Some(call) => put_calling(facts, call, node, out),
@@ -522,7 +528,7 @@ pub(crate) fn put_called(
     out: &mut Vec<Item>,
 ) -> Result<(), OutOfMemory>
     ensures { OnOk result (entries out.new.items ≡ entries out.old.items
-        ++ called_word (element_view element.now) way (rule_of node.now.kind) node.now.kind (docs_in node.now.parts.items)
+        ++ called_word facts.now (element_view element.now) way (rule_of node.now.kind) node.now.kind (docs_in node.now.parts.items)
         (own_word facts.now way (rule_of node.now.kind) node.now.kind node.now.id.0 (docs_in node.now.parts.items)
         (each_field facts.now node.now) (all_fields facts.now node.now)) (each_field facts.now node.now)) }
 {

@@ -1,23 +1,24 @@
 //! The effect word of classes that are decorated, or whose elements are, with what is called behind them.
 ghost use Rattle.std.specs.Prelude.{◌≡◌, ◌∷◌, [], ◌++◌, OnOk, Some, codes, false, option_map};
 ghost use Rattle.oxt_facts.specs.Entry.{binding_text, entries, lone, owned};
-ghost use Rattle.oxt_facts.specs.Told.{decorating_view, use_view};
+ghost use Rattle.oxt_facts.specs.Told.{decorating_view, metadata_view, use_view};
 ghost use Rattle.oxt_forms.specs.Details.{start};
 ghost use Rattle.oxt_tree.specs.Doc.{flag, text};
 ghost use Rattle.oxt_tree.specs.Names.{name_bytes};
 ghost use Rattle.oxt_word.specs.Calls.{used_word};
-ghost use Rattle.oxt_word.specs.Decorated.{assigned_call, calls_behind, class_bind, class_call, declared_class, decorated_class, decorated_word, default_class_word, element_calls, exported_behind, exported_name, exported_use, inner_bind, inner_made, inner_used, kept_there, made_bind, own_call, set_class, titled_word, used_bind};
+ghost use Rattle.oxt_word.specs.Decorated.{assigned_call, calls_behind, class_bind, class_call, class_list, declared_class, decorated_class, decorated_word, default_class_word, element_calls, exported_behind, exported_name, exported_use, inner_bind, inner_made, inner_used, kept_there, made_bind, own_call, set_class, titled_word, used_bind};
 ghost use Rattle.oxt_word.specs.Enums.{use_word};
 ghost use Rattle.oxt_word.specs.Word.{each_field};
 
 use crate::calls::{put_helper_start, put_keep, put_kept, put_used};
 use crate::class::put_class_parts;
 use crate::enums::{is_exported, put_operation, put_use};
+use crate::metadata::put_metadata;
 use crate::way::Way;
 use crate::word::put_field;
 use oxt_facts::facts::Facts;
 use oxt_facts::item::{Atom, Binding, Item, ItemKind};
-use oxt_facts::told::{ToldDecorated, ToldName, ToldUse};
+use oxt_facts::told::{ToldDecorated, ToldMetadata, ToldName, ToldUse};
 use oxt_forms::put::{put_detailed, put_lone, put_owned, put_start};
 use oxt_grammar::field::Field;
 use oxt_grammar::kind::Kind;
@@ -234,23 +235,39 @@ fn put_set_class(
     put_class_bind(facts, &class.name, Binding::Let, false, node, out)
 }
 
-/// Puts the call of the decorators of a class and of the parameters of its constructor.
+/// Puts the list of the decorators of a class and of the parameters of its constructor, with that metadata last.
+#[cycle(word)]
+fn put_class_list(
+    facts: &Facts,
+    metadata: &ToldMetadata,
+    node: &Node,
+    out: &mut Vec<Item>,
+) -> Result<(), OutOfMemory>
+    ensures { OnOk result (entries out.new.items ≡ entries out.old.items
+        ++ class_list facts.now (metadata_view metadata.now) (each_field facts.now node.now)) }
+{
+    put_start(Kind::ArrayExpression, Vec::new(facts.memory()), out)?;
+    put_field(facts, node, Field::Decorators, Way::Applied, out)?;
+    put_field(facts, node, Field::Body, Way::Injected, out)?;
+    put_metadata(facts, metadata, out)?;
+    put_lone(facts.memory(), ItemKind::Close, out)
+}
+
+/// Puts the call of these.
 #[cycle(word)]
 fn put_class_call(
     facts: &Facts,
+    metadata: &ToldMetadata,
     name: &ToldUse,
     node: &Node,
     out: &mut Vec<Item>,
 ) -> Result<(), OutOfMemory>
-    ensures { OnOk result (entries out.new.items
-        ≡ entries out.old.items ++ class_call (use_view name.now) (each_field facts.now node.now)) }
+    ensures { OnOk result (entries out.new.items ≡ entries out.old.items
+        ++ class_call facts.now (metadata_view metadata.now) (use_view name.now) (each_field facts.now node.now)) }
 {
     let alloc = facts.memory();
     put_helper_start(alloc, "decorate", out)?;
-    put_start(Kind::ArrayExpression, Vec::new(alloc), out)?;
-    put_field(facts, node, Field::Decorators, Way::Applied, out)?;
-    put_field(facts, node, Field::Body, Way::Injected, out)?;
-    put_lone(alloc, ItemKind::Close, out)?;
+    put_class_list(facts, metadata, node, out)?;
     put_used(alloc, name, out)?;
     put_lone(alloc, ItemKind::Close, out)
 }
@@ -259,25 +276,26 @@ fn put_class_call(
 #[cycle(word)]
 fn put_assigned(
     facts: &Facts,
+    metadata: &ToldMetadata,
     used: &ToldUse,
     alias: &Option<Name>,
     node: &Node,
     out: &mut Vec<Item>,
 ) -> Result<(), OutOfMemory>
     ensures { OnOk result (entries out.new.items ≡ entries out.old.items
-        ++ assigned_call (use_view used.now) (option_map name_bytes alias.now) (each_field facts.now node.now)) }
+        ++ assigned_call facts.now (metadata_view metadata.now) (use_view used.now) (option_map name_bytes alias.now) (each_field facts.now node.now)) }
 {
     let alloc = facts.memory();
     match used {
         ToldUse::Name(name) => {
             put_assignment_start(alloc, name, out)?;
-            put_class_call(facts, used, node, out)?;
+            put_class_call(facts, metadata, used, node, out)?;
             put_kept(alloc, alias.as_ref(), out)?;
             put_lone(alloc, ItemKind::Close, out)?;
             put_lone(alloc, ItemKind::Eval, out)
         }
         ToldUse::Made(tag) => {
-            put_class_call(facts, used, node, out)?;
+            put_class_call(facts, metadata, used, node, out)?;
             put_kept(alloc, alias.as_ref(), out)?;
             put_keep(alloc, tag, out)
         }
@@ -306,10 +324,11 @@ fn put_own_call(
     out: &mut Vec<Item>,
 ) -> Result<(), OutOfMemory>
     ensures { OnOk result (entries out.new.items ≡ entries out.old.items
-        ++ own_call (option_map use_view class.now.name) (option_map name_bytes class.now.alias) (each_field facts.now node.now)) }
+        ++ own_call facts.now (metadata_view class.now.metadata) (option_map use_view class.now.name)
+        (option_map name_bytes class.now.alias) (each_field facts.now node.now)) }
 {
     match &class.name {
-        Some(name) => put_assigned(facts, name, &class.alias, node, out),
+        Some(name) => put_assigned(facts, &class.metadata, name, &class.alias, node, out),
         None => Ok(()),
     }
 }
@@ -365,7 +384,7 @@ fn put_decorated_class(
     out: &mut Vec<Item>,
 ) -> Result<(), OutOfMemory>
     ensures { OnOk result (entries out.new.items ≡ entries out.old.items
-        ++ decorated_class (decorating_view class.now) way (each_field facts.now node.now)) }
+        ++ decorated_class facts.now (decorating_view class.now) way (each_field facts.now node.now)) }
 {
     put_set_class(facts, class, node, out)?;
     put_calls_behind(facts, class.has_calls, way, node, out)?;
@@ -383,7 +402,7 @@ pub(crate) fn put_decorated(
     out: &mut Vec<Item>,
 ) -> Result<(), OutOfMemory>
     ensures { OnOk result (entries out.new.items ≡ entries out.old.items
-        ++ decorated_word (decorating_view class.now) way (each_field facts.now node.now)) }
+        ++ decorated_word facts.now (decorating_view class.now) way (each_field facts.now node.now)) }
 {
     match way {
         Way::Calls => put_element_calls(facts, class.has_calls, node, out),

@@ -365,7 +365,7 @@ pub(crate) fn put_moving(
 ) -> Result<(), OutOfMemory>
     ensures { OnOk result (entries out.new.items
         ≡ entries out.old.items
-        ++ moving_word (moving_view field.now) way (rule_of node.now.kind) (each_field facts.now node.now)) }
+        ++ moving_word facts.now (moving_view field.now) way (rule_of node.now.kind) (each_field facts.now node.now)) }
 {
     match way {
         Way::Keys if !field.is_last => put_moved_key(facts, field, node, out),

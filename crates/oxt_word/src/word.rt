@@ -1,5 +1,5 @@
 //! The effect word of a tree.
-ghost use Rattle.std.specs.Prelude.{◌≡◌, [], ◌++◌, IfOk, OnOk, codes, if◌then◌else◌, map};
+ghost use Rattle.std.specs.Prelude.{◌≡◌, [], ◌++◌, IfOk, OnOk, if◌then◌else◌, map};
 ghost use Rattle.oxt_grammar.specs.Field.{row_view};
 ghost use Rattle.oxt_tree.specs.View.{docs_in, node_doc, part_doc};
 ghost use Rattle.oxt_facts.specs.Entry.{entries};
@@ -7,7 +7,7 @@ ghost use Rattle.oxt_forms.specs.Details.{is_read};
 ghost use Rattle.oxt_forms.specs.Leaves.{dropped};
 ghost use Rattle.oxt_word.specs.Node.{opened};
 ghost use Rattle.oxt_word.specs.RuleOf.{rule_of};
-ghost use Rattle.oxt_word.specs.Ways.{bound_word, entered_word, exported_word, target_word};
+ghost use Rattle.oxt_word.specs.Ways.{exported_word};
 ghost use Rattle.oxt_word.specs.Whole.{arrow_word, assignment_word, body_word, call_word, declarator_word, function_word, get_word, if_word, logical_word, object_word, sequence_word, variables_word, whole_word};
 ghost use Rattle.oxt_word.specs.Word.{all_fields, each_field, each_said, fields_said, last_said, list_word, node_word, own_word, said, some_said, turns_said, way_word, word};
 ghost use Rattle.oxt_grammar.specs.Keys.{key_of};
@@ -34,6 +34,7 @@ use crate::namespaces::{put_export, put_namespace, put_stored};
 use crate::rule::Rule;
 use crate::rule_of::rule_of;
 use crate::way::Way;
+use crate::ways::{put_bound, put_entered, put_target};
 use oxt_facts::facts::Facts;
 use oxt_facts::groups::number_groups;
 use oxt_facts::inside::inside;
@@ -46,8 +47,8 @@ use oxt_forms::forms::{
 };
 use oxt_forms::made::{is_keep, is_silent};
 use oxt_forms::put::{
-    is_read, put_base, put_bind, put_dropped, put_first, put_in, put_lone, put_name, put_number,
-    put_open, put_private, put_spelled, put_start, target_atom,
+    is_read, put_base, put_dropped, put_first, put_lone, put_name, put_number, put_open,
+    put_private, put_spelled, put_start, target_atom,
 };
 use oxt_grammar::field::Field;
 use oxt_grammar::holds::Row;
@@ -623,7 +624,7 @@ fn put_variables(
 /// Puts a declarator: its value, which is set, and its pattern; nothing if a made name is declared without a
 /// value.
 #[cycle(word)]
-fn put_declarator(
+pub(crate) fn put_declarator(
     facts: &Facts,
     binding: Binding,
     exported: bool,
@@ -703,99 +704,4 @@ fn put_exported(
         Rule::ImportEquals => put_import_equals(facts, true, node, out),
         _ => put_whole(facts, rule, node, out),
     }
-}
-
-/// Puts a target: the object and the key of a member.
-#[cycle(word)]
-fn put_target(
-    facts: &Facts,
-    rule: Rule,
-    node: &Node,
-    out: &mut Vec<Item>,
-) -> Result<(), OutOfMemory>
-    ensures { OnOk result (entries out.new.items
-        ≡ entries out.old.items ++ target_word facts.now rule node.now.kind node.now.id.0 (docs_in node.now.parts.items)
-        (each_field facts.now node.now) (all_fields facts.now node.now)) }
-{
-    match rule {
-        Rule::Transparent => put_field(facts, node, Field::Expression, Way::Target, out),
-        Rule::StaticMember => put_key(facts, node, Field::Property, Way::KeyText, out),
-        Rule::ComputedMember => put_key(facts, node, Field::Expression, Way::Whole, out),
-        Rule::PrivateMember => put_key(facts, node, Field::Field, Way::Whole, out),
-        _ => put_whole(facts, rule, node, out),
-    }
-}
-
-/// Puts the object of a member and its key, which stands in the field of that name.
-#[cycle(word)]
-fn put_key(
-    facts: &Facts,
-    node: &Node,
-    key: Field,
-    way: Way,
-    out: &mut Vec<Item>,
-) -> Result<(), OutOfMemory>
-    ensures { OnOk result (entries out.new.items
-        ≡ entries out.old.items ++ (each_field facts.now node.now (codes "object") Way.Whole
-        ++ each_field facts.now node.now (key_of key) way)) }
-{
-    put_field(facts, node, Field::Object, Way::Whole, out)?;
-    put_field(facts, node, key, way, out)
-}
-
-/// Puts a pattern or a declarator, whose names are bound as that, and exported or not.
-#[cycle(word)]
-fn put_bound(
-    facts: &Facts,
-    binding: Binding,
-    exported: bool,
-    rule: Rule,
-    node: &Node,
-    out: &mut Vec<Item>,
-) -> Result<(), OutOfMemory>
-    ensures { OnOk result (entries out.new.items
-        ≡ entries out.old.items ++ bound_word facts.now binding exported rule node.now.kind node.now.id.0
-        (docs_in node.now.parts.items) (each_field facts.now node.now) (all_fields facts.now node.now)) }
-{
-    match rule {
-        Rule::Identifier => put_bind(facts, binding, exported, node, out),
-        Rule::Pattern => put_plain(facts, node, Way::Bound(binding, exported), out),
-        Rule::Declarator => put_declarator(facts, binding, exported, node, out),
-        _ => put_whole(facts, rule, node, out),
-    }
-}
-
-/// Puts a function that is called where it stands, by a call with that pure flag.
-#[cycle(word)]
-fn put_entered(
-    facts: &Facts,
-    pure: bool,
-    rule: Rule,
-    node: &Node,
-    out: &mut Vec<Item>,
-) -> Result<(), OutOfMemory>
-    ensures { OnOk result (entries out.new.items
-        ≡ entries out.old.items ++ entered_word facts.now pure rule node.now.kind node.now.id.0
-        (docs_in node.now.parts.items) (each_field facts.now node.now) (all_fields facts.now node.now)) }
-{
-    match rule {
-        Rule::Transparent => put_field(facts, node, Field::Expression, Way::Entered(pure), out),
-        Rule::FunctionExpression => put_entry(facts, pure, node, out),
-        Rule::Parameters => put_field(facts, node, Field::Items, Way::Entered(pure), out),
-        Rule::Parameter => put_field(facts, node, Field::Pattern, Way::Entered(pure), out),
-        Rule::Identifier => put_in(facts, pure, node, out),
-        _ => put_whole(facts, rule, node, out),
-    }
-}
-
-/// Puts the entry into a function, its body and its end.
-#[cycle(word)]
-fn put_entry(facts: &Facts, pure: bool, node: &Node, out: &mut Vec<Item>) -> Result<(), OutOfMemory>
-    ensures { OnOk result (entries out.new.items
-        ≡ entries out.old.items ++ entered_word facts.now pure Rule.FunctionExpression node.now.kind node.now.id.0
-        (docs_in node.now.parts.items) (each_field facts.now node.now) (all_fields facts.now node.now)) }
-{
-    put_field(facts, node, Field::Params, Way::Entered(pure), out)?;
-    put_field(facts, node, Field::Body, Way::Whole, out)?;
-    put_lone(facts.memory(), ItemKind::Out, out)
 }

@@ -38,8 +38,8 @@ Flags of oxt, as it takes them:
   --optimize-enums               members of other enums become their constants
   --rewrite-extensions WORD      true, false, rewrite or remove
   --legacy                       decorators as TypeScript had them
-  --emit-decorator-metadata
-  --no-strict-null-checks
+  --emit-decorator-metadata      calls of decorators tell the types that are written
+  --no-strict-null-checks        null and undefined do not count in these
   --module WORD                  preserve, esm or commonjs
   --set-public-class-fields      fields become assignments
 

@@ -4,7 +4,7 @@ use Rattle.oxt_facts.specs.declared.item.ItemKind.TheVariants as item
 use Rattle.oxt_forms.specs.Details.{start}
 use Rattle.oxt_grammar.specs.declared.kind.Kind.TheVariants.{CallExpression}
 use Rattle.oxt_tree.specs.Doc.{flag, text}
-use Rattle.oxt_word.specs.Calls.{helper_start}
+use Rattle.oxt_word.specs.Helpers.{helper_start}
 use Rattle.oxt_word.specs.Modules.{free_word}
 use Rattle.oxt_word.proofs.calls.put_helper_start.Goals as goal
 

@@ -1,0 +1,14 @@
+pub mod Annotations
+pub mod DottedNames
+pub mod Events
+pub mod Forms
+pub mod Joins
+pub mod Latest
+pub mod Meant
+pub mod Shapes
+pub mod Sights
+pub mod Sites
+pub mod Symbols
+pub mod Types
+pub mod Typings
+pub mod Whole
