@@ -1,7 +1,7 @@
 #!/usr/bin/env python3
 """Runs the TypeScript modules of a folder as the program lowers them and as other compilers do, and compares what they do.
 
-    tools/run_modules.py [--node-path PATH] [--assigned | --decorated] OXT FOLDER
+    tools/run_modules.py [--node-path PATH] [--assigned | --decorated | --typed] OXT FOLDER
 
 OXT is the built program `oxt`, and FOLDER holds the modules, as NAME.ts. They are lowered by way of `adapters/node`. PATH, or
 else the variable NODE_PATH, names the folder of node's modules that has `typescript` and `@babel/core`. Node is 20.6 or later.
@@ -11,7 +11,8 @@ of them refuses has another's text there, for those that import it. A module imp
 or "./NAME". Compared are what it prints, its status, and the name and type of each of its exports. A compiler that
 finds the source faulty, as an old tsc finds new syntax, is passed over. With `--assigned` public fields are set by assignment
 and empty ones go, in `oxt` by its flags and in tsc by `useDefineForClassFields: false`; with `--decorated` decorators have their older
-meaning, in `oxt` by `--legacy`, with a `babelHelpers` of this tool, and in tsc by `experimentalDecorators`. Babel is then left out.
+meaning, in `oxt` by `--legacy`, with a `babelHelpers` of this tool, and in tsc by `experimentalDecorators`. Babel is then left out. With
+`--typed` decorators are told types too, in `oxt` by `--emit-decorator-metadata`, and in tsc by `emitDecoratorMetadata`.
 
 Prints a line for each module: `same`, `differs` with the compiler and the first line, `refused` with the program's
 line, or `unread` where no tree or no other text can be made of the source. Then the counts. The status is 1 if a module
@@ -47,6 +48,8 @@ ASSIGNED = {"tsc": TSC.replace("useDefineForClassFields: true", "useDefineForCla
 ASSIGNED_FLAGS = ["--set-public-class-fields", "--remove-empty-fields"]
 DECORATED = {"tsc": TSC.replace("isolatedModules: true", "isolatedModules: true, experimentalDecorators: true")}
 DECORATED_FLAGS = ["--legacy"]
+TYPED = {"tsc": DECORATED["tsc"].replace("experimentalDecorators: true", "experimentalDecorators: true, emitDecoratorMetadata: true, strict: true")}
+TYPED_FLAGS = [*DECORATED_FLAGS, "--emit-decorator-metadata"]
 # Compiles each pair of files that it is given; what fails is not written.
 COMPILE_ALL = """
 const fs = require("fs");
@@ -69,7 +72,8 @@ const decorate = (decorators, target, key, wanted) => {
   return made;
 };
 const decorateParam = (index, decorator) => (target, key) => { decorator(target, key, index); };
-globalThis.babelHelpers = { decorate, decorateParam };"""
+const decorateMetadata = (key, written) => Reflect.metadata?.(key, written) ?? (() => {});
+globalThis.babelHelpers = { decorate, decorateParam, decorateMetadata };"""
 RUN = """const it = await import(process.argv[1]);
 for (const name of Object.keys(it)) console.log(`export ${name}: ${typeof it[name]}`);"""
 
@@ -142,6 +146,8 @@ def compared(words):
     """The compilers and the flags of the program that the words ask for."""
     if words.assigned:
         return ASSIGNED, ASSIGNED_FLAGS
+    if words.typed:
+        return TYPED, TYPED_FLAGS
     return (DECORATED, DECORATED_FLAGS) if words.decorated else (COMPILERS, [])
 
 
@@ -151,6 +157,7 @@ def main():
     ways = parser.add_mutually_exclusive_group()
     ways.add_argument("--assigned", action="store_true", help="public fields are set by assignment, and empty ones go")
     ways.add_argument("--decorated", action="store_true", help="decorators have their older meaning")
+    ways.add_argument("--typed", action="store_true", help="the same, and they are told types")
     for word in ("program", "folder"):
         parser.add_argument(word, type=lambda path: Path(path).resolve())
     words = parser.parse_args()
