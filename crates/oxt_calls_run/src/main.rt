@@ -1,13 +1,15 @@
-//! Public calls that no row of a table reaches: those of runs, certificates and their faults. Each is
-//! made once, with ample memory, and what it answers is printed. Standard input has the trees and texts on which
+//! Public calls that no row of a table reaches: those of runs, certificates and their faults, and the passes one by
+//! one. Each is made once, with ample memory, and what it answers is printed. Standard input has the trees and texts on which
 //! they are made.
 #![tactic(auto)]
 
 mod faults;
 mod transform;
+mod walked;
 
 use crate::faults::print_faults;
 use crate::transform::print_transform;
+use crate::walked::print_walked;
 use anyhow::Result;
 use oxt_io::ReaderSource;
 use oxt_lines::lines::Lines;
@@ -28,5 +30,6 @@ fn main(rt: HostRuntime) -> Result<()> {
 /// All sections.
 fn print_all(alloc: Global, table: &Table, lines: &mut Lines) -> std::result::Result<(), Stopped> {
     print_transform(alloc, table, lines)?;
+    print_walked(alloc, table, lines)?;
     print_faults(alloc, lines)
 }

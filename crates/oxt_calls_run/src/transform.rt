@@ -6,6 +6,7 @@ use oxt_lines::table::Table;
 use oxt_options::options::TransformOptions;
 use oxt_options::plan::Plan;
 use oxt_resolve::resolve::resolve;
+use oxt_scoping::scoping::Scoping;
 use oxt_transform::certificate::find_mismatch;
 use oxt_transform::expected::Expected;
 use oxt_transform::{Mismatch, SureSink, SureSource, run};
@@ -38,23 +39,44 @@ fn status_of(alloc: Global, source: &mut SureSource) -> u8 {
 fn settings(alloc: Global, table: &Table, lines: &mut Lines) -> Result<(), Stopped> {
     let program = table.tree(alloc, "nothing")?;
     let mut expected = expected_of(alloc, &program.root)?;
+    let printed = print_settings(alloc, &mut expected, &program.root, lines);
+    drop(expected);
+    printed
+}
+
+/// The settings beside those that are expected, and beside those of a script.
+fn print_settings(
+    alloc: Global,
+    expected: &mut Expected,
+    root: &Node,
+    lines: &mut Lines,
+) -> Result<(), Stopped> {
     print_mismatch(
         alloc,
         "a module that stays TypeScript, beside a module",
-        &expected,
-        &program.root,
+        expected,
+        root,
         lines,
     )?;
     expected.settings.script = true;
-    print_mismatch(alloc, "beside a script", &expected, &program.root, lines)
+    print_mismatch(alloc, "beside a script", expected, root, lines)
 }
 
 /// What is expected of the output of a source, of which no specifier is kept.
 fn expected_of(alloc: Global, root: &Node) -> Result<Expected, Stopped> {
     let scoping = resolve(alloc, root, false)?;
-    let plan = Plan::empty(alloc);
+    let expected = expected_by(alloc, root, &scoping);
+    drop(scoping);
+    expected
+}
+
+/// The same, where that is the source's table of names.
+fn expected_by(alloc: Global, root: &Node, scoping: &Scoping) -> Result<Expected, Stopped> {
     let options = TransformOptions::defaults(alloc)?;
-    Ok(Expected::of(alloc, root, &scoping, &plan, &options)?)
+    let plan = Plan::empty(alloc);
+    let expected = Expected::of(alloc, root, scoping, &plan, &options);
+    drop(plan);
+    Ok(expected?)
 }
 
 /// A line with the place of the setting that is wrong.
@@ -65,9 +87,17 @@ fn print_mismatch(
     root: &Node,
     lines: &mut Lines,
 ) -> Result<(), Stopped> {
-    match find_mismatch(alloc, expected, root)? {
-        Some(Mismatch::Setting { place }) => lines.text(label, place.as_str()),
-        Some(_) => lines.text(label, "another mismatch"),
-        None => lines.text(label, "none"),
+    let mismatch = find_mismatch(alloc, expected, root)?;
+    let printed = lines.text(label, text_of(&mismatch));
+    drop(mismatch);
+    printed
+}
+
+/// The place of the setting that is wrong, or what is wrong else.
+fn text_of(mismatch: &Option<Mismatch>) -> &str {
+    match mismatch {
+        Some(Mismatch::Setting { place }) => place.as_str(),
+        Some(_) => "another mismatch",
+        None => "none",
     }
 }

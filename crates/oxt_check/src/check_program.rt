@@ -130,7 +130,10 @@ fn check_planned(
     let rules = FieldRules::new(options, &plan);
     match check_code(alloc, program, scoping, rules, kept) {
         Ok(()) => Ok(plan),
-        Err(fault) => Err(fault),
+        Err(fault) => {
+            drop(plan);
+            Err(fault)
+        }
     }
 }
 
@@ -238,10 +241,31 @@ fn with_aliases(
     ensures aliases { IfOk result (λ p. (n : ℕ) → alias_at p.aliases n ≡ last_alias (alias_uses scoping.now
         (rules_in (transform_view options.now) plan) (node_doc program.now)) n) }
 {
-    let rules = FieldRules::new(options, &plan);
+    match put_aliases(alloc, program, scoping, &mut plan, options) {
+        Ok(()) => Ok(plan),
+        Err(error) => {
+            drop(plan);
+            Err(error)
+        }
+    }
+}
+
+/// Puts in the plan as whose aliases the program's names are read.
+fn put_aliases(
+    alloc: Global,
+    program: &Node,
+    scoping: &Scoping,
+    plan: &mut Plan,
+    options: &TransformOptions,
+) -> Result<(), OutOfMemory>
+    ensures others { OnOk result (plan.new ≡ record plan.old { aliases = plan.new.aliases }) }
+    ensures aliases { OnOk result ((n : ℕ) → alias_at plan.new.aliases n ≡ last_alias (alias_uses scoping.now
+        (rules_in (transform_view options.now) plan.old) (node_doc program.now)) n) }
+{
+    let rules = FieldRules::new(options, plan);
     let aliases = alias_uses(alloc, program, scoping, rules)?;
     plan.set_aliases(alloc, aliases)?;
-    Ok(plan)
+    Ok(())
 }
 
 /// The plan for the program, in which metadata writes that and these nodes are kept, the same as `kept` lists; of aliases it

@@ -5,12 +5,12 @@ use crate::removed::{is_kept, is_listing, is_removed};
 use oxt_grammar::field::Field;
 use oxt_grammar::kind::Kind;
 use oxt_grammar::word::Word;
+use oxt_options::Module;
 use oxt_options::plan::Plan;
-use oxt_options::{Module, TransformOptions};
 use oxt_tree::fields::place_of;
 use oxt_tree::ids::{NodeId, NodeIds, OutOfMemory, Span};
 use oxt_tree::name::Name;
-use oxt_tree::tree::{Node, Part, Program};
+use oxt_tree::tree::{Node, Part};
 use std::alloc::Global;
 use std::vec;
 
@@ -21,30 +21,39 @@ use std::vec;
 ///
 /// With `only_remove_type_imports` an import that loses its specifiers stays, for what its module does.
 ///
+/// `program` is a node of kind `Program`, and `module` is what it is written for.
+///
 /// # Errors
 ///
 /// `OutOfMemory` for want of memory or of numbers alone. The program may then only be dropped.
 pub fn retain_modules(
-    program: &mut Program,
+    program: &mut Node,
     plan: &Plan,
-    options: &TransformOptions,
+    only_remove_type_imports: bool,
+    module: Module,
+    ids: &mut NodeIds,
 ) -> Result<(), OutOfMemory> {
-    if program.root.is_definition_file() {
-        empty(&mut program.root);
+    if program.is_definition_file() {
+        empty(program);
     } else {
-        retain_body(program, plan, options.typescript.only_remove_type_imports)?;
+        retain_body(program, plan, only_remove_type_imports, ids)?;
     }
-    match options.module {
-        Module::CommonJs => make_strict(program),
+    match module {
+        Module::CommonJs => make_strict(program, ids),
         _ => Ok(()),
     }
 }
 
 /// Does so with the statements of the program, which is no file of definitions.
-fn retain_body(program: &mut Program, plan: &Plan, all: bool) -> Result<(), OutOfMemory> {
-    let number = program.ids.fresh()?;
-    let is_due = is_export_due(&program.root, plan, all);
-    match field_mut(&mut program.root, Field::Body) {
+fn retain_body(
+    program: &mut Node,
+    plan: &Plan,
+    all: bool,
+    ids: &mut NodeIds,
+) -> Result<(), OutOfMemory> {
+    let number = ids.fresh()?;
+    let is_due = is_export_due(program, plan, all);
+    match field_mut(program, Field::Body) {
         Some(Part::List(statements)) => {
             retain_statements(plan, all, statements);
             if is_due {
@@ -57,12 +66,12 @@ fn retain_body(program: &mut Program, plan: &Plan, all: bool) -> Result<(), OutO
 }
 
 /// Puts the directive `use strict` first, unless one of the directives says so.
-fn make_strict(program: &mut Program) -> Result<(), OutOfMemory> {
-    if is_strict(program.root.list(Field::Directives)) {
+fn make_strict(program: &mut Node, ids: &mut NodeIds) -> Result<(), OutOfMemory> {
+    if is_strict(program.list(Field::Directives)) {
         return Ok(());
     }
-    let directive = use_strict(*program.root.parts.allocator(), &mut program.ids)?;
-    match field_mut(&mut program.root, Field::Directives) {
+    let directive = use_strict(*program.parts.allocator(), ids)?;
+    match field_mut(program, Field::Directives) {
         Some(Part::List(directives)) => {
             directives.insert(0, directive)?;
             Ok(())

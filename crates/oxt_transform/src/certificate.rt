@@ -12,7 +12,6 @@ ghost use Rattle.oxt_tree.specs.View.{node_doc};
 use crate::bound::first_misbound;
 use crate::expected::Expected;
 use crate::fault::Fault;
-use crate::passes::drop_table;
 use crate::settings::wrong_setting;
 use oxt_check::beside::first_typescript_beside;
 pub use oxt_check::fault::Mismatch;
@@ -104,7 +103,7 @@ fn groups_of_tree(alloc: Global, output: &Node) -> Result<NameGroups, OutOfMemor
     match resolve(alloc, output, false) {
         Ok(scoping) => {
             let groups = groups_of(alloc, output, &scoping);
-            drop_table(scoping);
+            drop(scoping);
             groups
         }
         Err(fault) => Err(fault),

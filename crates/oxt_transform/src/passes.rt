@@ -7,7 +7,6 @@ ghost use Rattle.oxt_tree.specs.View.{node_doc};
 use crate::plain_source::{is_left_alone, say_javascript};
 use crate::typescript::lower_program;
 use oxt_ctx::context::TraverseCtx;
-use oxt_modules::retain::retain_modules;
 use oxt_options::TransformOptions;
 use oxt_options::plan::Plan;
 use oxt_options::state::TransformState;
@@ -23,8 +22,8 @@ pub(crate) struct Tables {
     pub(crate) plan: Plan,
 }
 
-/// Lowers the program: removes what of its imports and exports stands for nothing at run time, and walks over it with
-/// the passes. Of a plain program that the options leave as it is, only the language is set.
+/// Lowers the program: walks over it with the passes. Of a plain program that the options leave as it is, only the
+/// language is set.
 ///
 /// # Errors
 ///
@@ -40,21 +39,7 @@ pub(crate) fn rewrite(
 {
     if is_left_alone(options, &program.root) {
         say_javascript(&mut program.root);
-        return Ok(());
-    }
-    retain_and_walk(alloc, program, options, tables)
-}
-
-/// Removes what of the imports and exports stands for nothing at run time, and runs the passes over the program, if it
-/// is no file of definitions.
-fn retain_and_walk(
-    alloc: Global,
-    program: &mut Program,
-    options: &TransformOptions,
-    tables: Tables,
-) -> Result<(), OutOfMemory> {
-    retain_modules(program, &tables.plan, options)?;
-    if program.root.is_definition_file() {
+        drop(tables);
         return Ok(());
     }
     walk(alloc, program, options, tables)
@@ -72,12 +57,6 @@ fn walk(
     let mut ctx = TraverseCtx::new(alloc, scoping, plan, state, program.ids);
     let walked = lower_program(&mut program.root, options, &mut ctx);
     program.ids = ctx.ids;
-    leave(ctx);
+    drop(ctx);
     walked
 }
-
-/// Drops the context of a walk.
-fn leave(_ctx: TraverseCtx) {}
-
-/// Drops the table of a program.
-pub(crate) fn drop_table(_scoping: Scoping) {}

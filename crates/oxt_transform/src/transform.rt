@@ -20,7 +20,7 @@ ghost use Rattle.oxt_valid.specs.Valid.{is_tree};
 use crate::certificate::certify;
 use crate::expected::Expected;
 use crate::fault::{Fault, fault_of_reading};
-use crate::passes::{Tables, drop_table, rewrite};
+use crate::passes::{Tables, rewrite};
 use oxt_check::check;
 use oxt_check::diagnose::diagnostics_of;
 use oxt_json::read_tree;
@@ -130,7 +130,10 @@ fn lower(
     };
     let told = match diagnostics_of(alloc, &program.root, &tables.plan, options) {
         Ok(told) => told,
-        Err(_) => return Err(Fault::OutOfMemory),
+        Err(_) => {
+            drop(tables);
+            return Err(Fault::OutOfMemory);
+        }
     };
     match rewrite_and_test(alloc, program, options, tables) {
         Ok(()) => Ok(told),
@@ -160,8 +163,15 @@ fn rewrite_and_test(
         (node_doc program.new.root)) }
 {
     match Expected::of(alloc, &program.root, &tables.scoping, &tables.plan, options) {
-        Ok(expected) => rewrite_to(alloc, &expected, program, options, tables),
-        Err(_) => Err(Fault::OutOfMemory),
+        Ok(expected) => {
+            let tested = rewrite_to(alloc, &expected, program, options, tables);
+            drop(expected);
+            tested
+        }
+        Err(_) => {
+            drop(tables);
+            Err(Fault::OutOfMemory)
+        }
     }
 }
 
@@ -234,7 +244,7 @@ fn check_resolved(
     match check(alloc, program, &scoping, options) {
         Ok(plan) => Ok(Tables { scoping, plan }),
         Err(fault) => {
-            drop_table(scoping);
+            drop(scoping);
             Err(fault)
         }
     }

@@ -1,6 +1,6 @@
 //! The TypeScript passes as one.
 ghost use Rattle.std.specs.Prelude.{OnOk};
-ghost use Rattle.oxt_traverse.specs.Level.{IsLevel};
+ghost use Rattle.oxt_traverse.specs.Level.{IsLevel, IsOpenAt};
 
 use oxt_class::pass::ClassFields;
 use oxt_ctx::context::TraverseCtx;
@@ -10,6 +10,7 @@ use oxt_erase::module::TypeScriptModule;
 use oxt_erase::pass::TypeScriptAnnotations;
 use oxt_lower::namespace::TypeScriptNamespace;
 use oxt_lower::pass::TypeScriptEnum;
+use oxt_modules::retain::retain_modules;
 use oxt_options::TransformOptions;
 use oxt_traverse::both::Both;
 use oxt_traverse::dispatch::{run_at_node, run_at_statements};
@@ -42,7 +43,9 @@ pub fn lower_program(
     walk_program(&mut passes, program, ctx)
 }
 
-/// The TypeScript passes: at each hook those of the passes that have it, in the order of the fields.
+/// The TypeScript passes. Before the parts of a program, what of its imports and exports stands for nothing at run time
+/// goes, and all code of a file of definitions. Then, and at each other hook, those of the passes that have it run, in the
+/// order of the fields.
 #[derive(Clone, Copy)]
 pub struct TypeScript {
     namespaces: TypeScriptNamespace,
@@ -66,6 +69,51 @@ impl TypeScript {
             extensions: TypeScriptRewriteExtensions::new(typescript),
         }
     }
+
+    /// Removes what of the program's imports and exports stands for nothing at run time, and runs the passes if it is no
+    /// file of definitions.
+    fn enter(&mut self, program: &mut Node, ctx: &mut TraverseCtx) -> Result<(), OutOfMemory>
+        ensures { OnOk result (IsLevel ctx.old ctx.new) }
+    {
+        self.retain(program, ctx)?;
+        if program.is_definition_file() {
+            return Ok(());
+        }
+        self.run(Hook::EnterProgram, program, ctx)
+    }
+
+    /// Removes what of the program's imports and exports stands for nothing at run time.
+    fn retain(&self, program: &mut Node, ctx: &mut TraverseCtx) -> Result<(), OutOfMemory>
+        ensures { OnOk result (IsLevel ctx.old ctx.new) }
+    {
+        let TypeScriptModule {
+            only_remove_type_imports,
+            module,
+        } = self.modules;
+        retain_modules(
+            program,
+            &ctx.plan,
+            only_remove_type_imports,
+            module,
+            &mut ctx.ids,
+        )
+    }
+
+    /// Runs at a node those of the passes that have the hook.
+    fn run(&mut self, hook: Hook, node: &mut Node, ctx: &mut TraverseCtx) -> Result<(), OutOfMemory>
+        requires open { IsOpenAt hook ctx.old }
+        ensures { OnOk result (IsLevel ctx.old ctx.new) }
+    {
+        run_at_node(&mut self.namespaces, hook, node, ctx)?;
+        run_at_node(&mut self.enums, hook, node, ctx)?;
+        run_at_node(&mut self.annotations, hook, node, ctx)?;
+        run_at_node(&mut self.modules, hook, node, ctx)?;
+        run_at_node(&mut self.classes, hook, node, ctx)?;
+        match &mut self.extensions {
+            Some(extensions) => run_at_node(extensions, hook, node, ctx),
+            None => Ok(()),
+        }
+    }
 }
 
 impl Traverse for TypeScript {
@@ -75,14 +123,9 @@ impl Traverse for TypeScript {
         node: &mut Node,
         ctx: &mut TraverseCtx,
     ) -> Result<(), OutOfMemory> {
-        run_at_node(&mut self.namespaces, hook, node, ctx)?;
-        run_at_node(&mut self.enums, hook, node, ctx)?;
-        run_at_node(&mut self.annotations, hook, node, ctx)?;
-        run_at_node(&mut self.modules, hook, node, ctx)?;
-        run_at_node(&mut self.classes, hook, node, ctx)?;
-        match &mut self.extensions {
-            Some(extensions) => run_at_node(extensions, hook, node, ctx),
-            None => Ok(()),
+        match hook {
+            Hook::EnterProgram => self.enter(node, ctx),
+            _ => self.run(hook, node, ctx),
         }
     }
 
