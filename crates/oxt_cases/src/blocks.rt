@@ -1,44 +1,71 @@
 //! Blocks of enums and namespaces.
 
+use crate::pieces::{Piece, put};
 use oxt_enum_checks::clash::first_clash;
 use oxt_enum_checks::first::first_blocks;
 use oxt_resolve::resolve::resolve;
+use oxt_scoping::scoping::Scoping;
 use oxt_tree::ids::{NodeId, OutOfMemory};
 use oxt_tree::tree::Node;
 use std::alloc::Global;
 
-/// The number of each block before which nothing of its name emits code, a line each.
+/// Puts the number of each block before which nothing of its name emits code, a line each.
 ///
 /// # Errors
 ///
 /// Fails only where memory runs out.
-pub fn first_lines_of(alloc: Global, program: &Node) -> Result<String, OutOfMemory> {
+pub fn put_first(alloc: Global, program: &Node, lines: &mut String) -> Result<(), OutOfMemory> {
     let scoping = resolve(alloc, program, false)?;
-    let blocks = first_blocks(alloc, program, &scoping)?;
-    lines_from(alloc, blocks.as_slice())
+    let outcome = put_first_by(alloc, program, &scoping, lines);
+    drop(scoping);
+    outcome
 }
 
-/// The numbers, a line each.
-fn lines_from(alloc: Global, numbers: &[NodeId]) -> Result<String, OutOfMemory> {
-    let mut lines = String::new(alloc);
+/// The same, where that is the table of scopes.
+fn put_first_by(
+    alloc: Global,
+    program: &Node,
+    scoping: &Scoping,
+    lines: &mut String,
+) -> Result<(), OutOfMemory> {
+    let blocks = first_blocks(alloc, program, scoping)?;
+    put_numbers(blocks.as_slice(), lines)
+}
+
+/// Puts the numbers, a line each.
+fn put_numbers(numbers: &[NodeId], lines: &mut String) -> Result<(), OutOfMemory> {
     for number in numbers {
-        writeln!(lines, "{}", number.0)?;
+        put_number(number.0, lines)?;
     }
-    Ok(lines)
+    Ok(())
 }
 
-/// The number of the first declaration that clashes with one before it, or `-`.
+/// Puts a number as a line.
+fn put_number(number: u64, lines: &mut String) -> Result<(), OutOfMemory> {
+    put(lines, &[Piece::Number(number), Piece::Text("\n")])
+}
+
+/// Puts the number of the first declaration that clashes with one before it, or `-`.
 ///
 /// # Errors
 ///
 /// Fails only where memory runs out.
-pub fn clash_lines_of(alloc: Global, program: &Node) -> Result<String, OutOfMemory> {
+pub fn put_clash(alloc: Global, program: &Node, lines: &mut String) -> Result<(), OutOfMemory> {
     let scoping = resolve(alloc, program, false)?;
-    let clash = first_clash(alloc, program, &scoping)?;
-    let mut lines = String::new(alloc);
-    match clash {
-        Some(number) => writeln!(lines, "{}", number.0)?,
-        None => lines.push_str("-\n")?,
+    let outcome = put_clash_by(alloc, program, &scoping, lines);
+    drop(scoping);
+    outcome
+}
+
+/// The same, where that is the table of scopes.
+fn put_clash_by(
+    alloc: Global,
+    program: &Node,
+    scoping: &Scoping,
+    lines: &mut String,
+) -> Result<(), OutOfMemory> {
+    match first_clash(alloc, program, scoping)? {
+        Some(number) => put_number(number.0, lines),
+        None => put(lines, &[Piece::Text("-\n")]),
     }
-    Ok(lines)
 }

@@ -55,7 +55,7 @@ fn joined(alloc: Global, values: &[Value]) -> Result<String, AllocError> {
     for value in values {
         match value.as_str() {
             Some(text) => lines.push_str(text)?,
-            None => push_json(alloc, value, &mut lines)?,
+            None => put_json(alloc, value, &mut lines)?,
         }
         lines.push('\n')?;
     }
@@ -63,7 +63,7 @@ fn joined(alloc: Global, values: &[Value]) -> Result<String, AllocError> {
 }
 
 /// Puts the JSON of a value.
-pub fn push_json(alloc: Global, value: &Value, lines: &mut String) -> Result<(), AllocError> {
+pub fn put_json(alloc: Global, value: &Value, lines: &mut String) -> Result<(), AllocError> {
     let text = value.to_string(alloc)?;
     lines.push_str(text.as_str())
 }

@@ -1,5 +1,6 @@
 //! What stands in the way of lowering classes.
 
+use crate::pieces::{Piece, put};
 use crate::told::plan_of;
 use oxt_class_checks::misplaced::{ClassFault, MisplacedElement, first_misplaced_element};
 use oxt_faults::moved::{MovedName, first_moved_capture};
@@ -11,45 +12,64 @@ use oxt_tree::ids::OutOfMemory;
 use oxt_tree::tree::Node;
 use std::alloc::Global;
 
-/// The first element of a class that cannot be lowered under the options, and the first name that would mean something
-/// else once it has moved, a line each; `-` where there is none.
+/// Puts the first element of a class that cannot be lowered under the options, and the first name that would mean
+/// something else once it has moved, a line each; `-` where there is none.
 ///
 /// # Errors
 ///
 /// Fails only where memory runs out.
-pub fn lines_of(
+pub fn put_lines(
     alloc: Global,
     program: &Node,
     options: &TransformOptions,
-) -> Result<String, OutOfMemory> {
+    lines: &mut String,
+) -> Result<(), OutOfMemory> {
     let scoping = resolve(alloc, program, options.decorator.legacy)?;
-    lines_from(alloc, program, &scoping, options)
+    let outcome = put_by(alloc, program, &scoping, options, lines);
+    drop(scoping);
+    outcome
 }
 
-/// The lines of the program, which has that table of scopes.
-fn lines_from(
+/// The same, where that is the table of scopes.
+fn put_by(
     alloc: Global,
     program: &Node,
     scoping: &Scoping,
     options: &TransformOptions,
-) -> Result<String, OutOfMemory> {
+    lines: &mut String,
+) -> Result<(), OutOfMemory> {
     let plan = plan_of(alloc, program, scoping, options)?;
     let rules = FieldRules::new(options, &plan);
-    let mut lines = String::new(alloc);
-    let misplaced = first_misplaced_element(alloc, program, rules)?;
-    push_misplaced(misplaced, &mut lines)?;
-    let captured = first_moved_capture(alloc, program, scoping, rules)?;
-    push_captured(captured, &mut lines)?;
-    Ok(lines)
+    let outcome = put_found(alloc, program, scoping, rules, lines);
+    drop(plan);
+    outcome
+}
+
+/// Puts what is found in the program, which has that table of scopes, under the rules.
+fn put_found(
+    alloc: Global,
+    program: &Node,
+    scoping: &Scoping,
+    rules: FieldRules,
+    lines: &mut String,
+) -> Result<(), OutOfMemory> {
+    put_misplaced(first_misplaced_element(alloc, program, rules)?, lines)?;
+    put_captured(first_moved_capture(alloc, program, scoping, rules)?, lines)
 }
 
 /// Puts the line of the misplaced element.
-fn push_misplaced(found: Option<MisplacedElement>, lines: &mut String) -> Result<(), OutOfMemory> {
+fn put_misplaced(found: Option<MisplacedElement>, lines: &mut String) -> Result<(), OutOfMemory> {
     match found {
         Some(MisplacedElement { fault, node }) => {
-            Ok(writeln!(lines, "misplaced {} {}", word_of(fault), node.0)?)
+            let line = [
+                Piece::Text("misplaced"),
+                Piece::Word(word_of(fault)),
+                Piece::Node(node),
+                Piece::Text("\n"),
+            ];
+            put(lines, &line)
         }
-        None => Ok(lines.push_str("misplaced -\n")?),
+        None => put(lines, &[Piece::Text("misplaced -\n")]),
     }
 }
 
@@ -64,9 +84,17 @@ fn word_of(fault: ClassFault) -> &'static str {
 }
 
 /// Puts the line of the captured name.
-fn push_captured(found: Option<MovedName>, lines: &mut String) -> Result<(), OutOfMemory> {
+fn put_captured(found: Option<MovedName>, lines: &mut String) -> Result<(), OutOfMemory> {
     match found {
-        Some(MovedName { name, node }) => Ok(writeln!(lines, "captured {name} {}", node.0)?),
-        None => Ok(lines.push_str("captured -\n")?),
+        Some(MovedName { name, node }) => {
+            let line = [
+                Piece::Text("captured"),
+                Piece::Word(name),
+                Piece::Node(node),
+                Piece::Text("\n"),
+            ];
+            put(lines, &line)
+        }
+        None => put(lines, &[Piece::Text("captured -\n")]),
     }
 }

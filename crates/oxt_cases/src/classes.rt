@@ -1,8 +1,8 @@
 //! What is told of classes and of their fields.
 
-use crate::decorated::push_call_of;
-use crate::told::push_if;
-use oxt_facts::told::{ToldClass, ToldField};
+use crate::decorated::put_call_of;
+use crate::pieces::{Piece, put};
+use oxt_facts::told::{ToldClass, ToldField, ToldName};
 use oxt_tree::ids::OutOfMemory;
 use oxt_tree::name::Name;
 
@@ -12,27 +12,47 @@ use oxt_tree::name::Name;
 /// # Errors
 ///
 /// Fails only where memory runs out.
-pub fn push_gains(number: u64, gaining: &ToldClass, lines: &mut String) -> Result<(), OutOfMemory> {
-    write!(lines, "{number} gains {}", gaining.place)?;
-    push_if(gaining.has_constructor, " constructor", lines)?;
-    push_if(gaining.is_derived, " derived", lines)?;
-    for told in &gaining.properties {
-        write!(lines, " {}", told.name.as_str())?;
+pub fn put_gains(number: u64, gaining: &ToldClass, lines: &mut String) -> Result<(), OutOfMemory> {
+    let front = [
+        Piece::Number(number),
+        Piece::Text(" gains "),
+        Piece::Count(gaining.place),
+        Piece::If(gaining.has_constructor, " constructor"),
+        Piece::If(gaining.is_derived, " derived"),
+    ];
+    put(lines, &front)?;
+    put_told_names(gaining.properties.as_slice(), lines)?;
+    put_alias(gaining.alias.as_ref(), lines)?;
+    put(lines, &[Piece::If(gaining.has_calls, " calls")])?;
+    put_fields(gaining.fields.as_slice(), lines)
+}
+
+/// Puts the names, each behind a space.
+///
+/// # Errors
+///
+/// Fails only where memory runs out.
+pub fn put_told_names(names: &[ToldName], lines: &mut String) -> Result<(), OutOfMemory> {
+    for told in names {
+        put(lines, &[Piece::Word(told.name.as_str())])?;
     }
-    match &gaining.alias {
-        Some(alias) => write!(lines, " alias {}", alias.as_str())?,
-        None => {}
+    Ok(())
+}
+
+/// Puts the alias of a class, if it has one.
+fn put_alias(alias: Option<&Name>, lines: &mut String) -> Result<(), OutOfMemory> {
+    match alias {
+        Some(alias) => put(lines, &[Piece::Text(" alias"), Piece::Word(alias.as_str())]),
+        None => Ok(()),
     }
-    push_if(gaining.has_calls, " calls", lines)?;
-    push_fields(gaining.fields.as_slice(), lines)
 }
 
 /// Puts the names of the fields that stand in front, and the end of the line.
-fn push_fields(fields: &[Name], lines: &mut String) -> Result<(), OutOfMemory> {
+fn put_fields(fields: &[Name], lines: &mut String) -> Result<(), OutOfMemory> {
     for field in fields {
-        write!(lines, " *{}", field.as_str())?;
+        put(lines, &[Piece::Word("*"), Piece::Text(field.as_str())])?;
     }
-    Ok(lines.push('\n')?)
+    put(lines, &[Piece::Text("\n")])
 }
 
 /// Puts `NUMBER moves static stays TAG last`, with `-` where its key is not kept, and the call, if it gives one.
@@ -40,15 +60,16 @@ fn push_fields(fields: &[Name], lines: &mut String) -> Result<(), OutOfMemory> {
 /// # Errors
 ///
 /// Fails only where memory runs out.
-pub fn push_moves(number: u64, moving: &ToldField, lines: &mut String) -> Result<(), OutOfMemory> {
-    write!(lines, "{number} moves")?;
-    push_if(moving.is_static, " static", lines)?;
-    push_if(moving.stays, " stays", lines)?;
-    match &moving.tag {
-        Some(tag) => write!(lines, " {}", tag.as_str())?,
-        None => lines.push_str(" -")?,
-    }
-    push_if(moving.is_last, " last", lines)?;
-    push_call_of(moving.call.as_ref(), lines)?;
-    Ok(lines.push('\n')?)
+pub fn put_moves(number: u64, moving: &ToldField, lines: &mut String) -> Result<(), OutOfMemory> {
+    let front = [
+        Piece::Number(number),
+        Piece::Text(" moves"),
+        Piece::If(moving.is_static, " static"),
+        Piece::If(moving.stays, " stays"),
+        Piece::Name(moving.tag.as_ref()),
+        Piece::If(moving.is_last, " last"),
+    ];
+    put(lines, &front)?;
+    put_call_of(moving.call.as_ref(), lines)?;
+    put(lines, &[Piece::Text("\n")])
 }

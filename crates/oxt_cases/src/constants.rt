@@ -1,5 +1,6 @@
 //! Constants and blocks of enums.
 
+use crate::pieces::{Piece, put, put_nodes};
 use oxt_enums::blocks::{EnumBlock, blocks_of};
 use oxt_enums::constants::MemberConstant;
 use oxt_enums::enums::{EnumConstants, constants_of};
@@ -8,127 +9,169 @@ use oxt_names::constant::ConstantValue;
 use oxt_scopes::owners::owners_of;
 use oxt_scopes::scopes::{OpenedScope, scopes_of};
 use oxt_tree::ids::OutOfMemory;
+use oxt_tree::name::Name;
 use oxt_tree::tree::Node;
 use std::alloc::Global;
 
-/// A line for each member of an enum: its name, and its constant, a text in quotes, or `-` where it has none, and
+/// Puts a line for each member of an enum: its name, and its constant, a text in quotes, or `-` where it has none, and
 /// `wide` where it would be too large.
 ///
 /// # Errors
 ///
 /// Fails only where memory runs out.
-pub fn lines_of(alloc: Global, program: &Node) -> Result<String, OutOfMemory> {
+pub fn put_members(alloc: Global, program: &Node, lines: &mut String) -> Result<(), OutOfMemory> {
     let members = members_of(alloc, program)?;
     let constants = constants_of(alloc, program)?;
-    lines_from(alloc, members.as_slice(), constants.as_slice())
+    put_each(alloc, members.as_slice(), constants.as_slice(), lines)
 }
 
-/// The lines of these members, which have these constants.
-fn lines_from(
+/// Puts the lines of these members, which have these constants.
+fn put_each(
     alloc: Global,
     members: &[Member],
     constants: &[MemberConstant],
-) -> Result<String, OutOfMemory> {
-    let mut lines = String::new(alloc);
+    lines: &mut String,
+) -> Result<(), OutOfMemory> {
     for (member, constant) in members.iter().zip(constants.iter()) {
-        push_line(alloc, member, constant, &mut lines)?;
+        put_member(alloc, member, constant, lines)?;
     }
-    Ok(lines)
+    Ok(())
 }
 
 /// Puts the line of a member.
-fn push_line(
+fn put_member(
     alloc: Global,
     member: &Member,
     constant: &MemberConstant,
     lines: &mut String,
 ) -> Result<(), OutOfMemory> {
-    lines.push_str(member.name.unwrap_or("?"))?;
-    lines.push(' ')?;
-    push_value(alloc, constant.value.as_ref(), lines)?;
-    push_wide(constant, lines)
+    let name = member.name.unwrap_or("?");
+    put(lines, &[Piece::Text(name), Piece::Text(" ")])?;
+    put_value(alloc, constant.value.as_ref(), lines)?;
+    put_wide(constant, lines)
 }
 
 /// Puts a constant: a text in quotes, and `-` for none.
-pub fn push_value(
+///
+/// # Errors
+///
+/// Fails only where memory runs out.
+pub fn put_value(
     alloc: Global,
     value: Option<&ConstantValue>,
     lines: &mut String,
 ) -> Result<(), OutOfMemory> {
     match value {
-        Some(ConstantValue::Text(text)) => write!(lines, "\"{}\"", text.as_str())?,
-        Some(number) => number.push_to(alloc, lines)?,
-        None => lines.push('-')?,
+        Some(ConstantValue::Text(text)) => put_quoted(text, lines),
+        Some(number) => number.push_to(alloc, lines),
+        None => put(lines, &[Piece::Text("-")]),
     }
-    Ok(())
+}
+
+/// Puts a text in quotes.
+fn put_quoted(text: &Name, lines: &mut String) -> Result<(), OutOfMemory> {
+    let quoted = [
+        Piece::Text("\""),
+        Piece::Text(text.as_str()),
+        Piece::Text("\""),
+    ];
+    put(lines, &quoted)
 }
 
 /// Says whether the member would be too large, and ends the line.
-fn push_wide(constant: &MemberConstant, lines: &mut String) -> Result<(), OutOfMemory> {
-    Ok(lines.push_str(if constant.is_wide { " wide\n" } else { "\n" })?)
+fn put_wide(constant: &MemberConstant, lines: &mut String) -> Result<(), OutOfMemory> {
+    let end = [Piece::If(constant.is_wide, " wide"), Piece::Text("\n")];
+    put(lines, &end)
 }
 
-/// A line for each member of an enum: its number, and its constant, the digits of the bytes of a text behind a
+/// Puts a line for each member of an enum: its number, and its constant, the digits of the bytes of a text behind a
 /// `t`.
 ///
 /// # Errors
 ///
 /// Fails only where memory runs out.
-pub fn numbered_lines_of(alloc: Global, program: &Node) -> Result<String, OutOfMemory> {
+pub fn put_numbered(alloc: Global, program: &Node, lines: &mut String) -> Result<(), OutOfMemory> {
     let constants = constants_of(alloc, program)?;
-    numbered_lines_from(alloc, constants.as_slice())
+    put_each_numbered(alloc, constants.as_slice(), lines)
 }
 
-/// The lines of members with these constants.
-fn numbered_lines_from(alloc: Global, constants: &[MemberConstant]) -> Result<String, OutOfMemory> {
-    let mut lines = String::new(alloc);
+/// Puts the lines of members with these constants.
+fn put_each_numbered(
+    alloc: Global,
+    constants: &[MemberConstant],
+    lines: &mut String,
+) -> Result<(), OutOfMemory> {
     for constant in constants {
-        push_numbered(alloc, constant, &mut lines)?;
+        put_with_number(alloc, constant, lines)?;
     }
-    Ok(lines)
+    Ok(())
 }
 
 /// Puts the line of a member with its number.
-fn push_numbered(
+fn put_with_number(
     alloc: Global,
     constant: &MemberConstant,
     lines: &mut String,
 ) -> Result<(), OutOfMemory> {
-    write!(lines, "{} ", constant.node.0)?;
+    put(lines, &[Piece::Number(constant.node.0), Piece::Text(" ")])?;
     match &constant.value {
-        Some(ConstantValue::Text(text)) => {
-            let digits = hex::encode(alloc, text.as_str())?;
-            write!(lines, "t{}", digits.as_str())?;
-        }
-        value => push_value(alloc, value.as_ref(), lines)?,
+        Some(ConstantValue::Text(text)) => put_digits(alloc, text, lines)?,
+        value => put_value(alloc, value.as_ref(), lines)?,
     }
-    push_wide(constant, lines)
+    put_wide(constant, lines)
 }
 
-/// A line for each block of an enum, by the scopes that declare them: the number of its body, that of the scope,
+/// Puts the digits of the bytes of a text behind a `t`.
+fn put_digits(alloc: Global, text: &Name, lines: &mut String) -> Result<(), OutOfMemory> {
+    let digits = hex::encode(alloc, text.as_str())?;
+    put(lines, &[Piece::Text("t"), Piece::Text(digits.as_str())])
+}
+
+/// Puts a line for each block of an enum, by the scopes that declare them: the number of its body, that of the scope,
 /// `const` where its enum is, and the bodies of all blocks of its enum.
 ///
 /// # Errors
 ///
 /// Fails only where memory runs out.
-pub fn block_lines_of(alloc: Global, program: &Node) -> Result<String, OutOfMemory> {
+pub fn put_blocks(alloc: Global, program: &Node, lines: &mut String) -> Result<(), OutOfMemory> {
     let scopes = scopes_of(alloc, program, false)?;
-    let enums = enums_of(alloc, program, scopes.as_slice())?;
-    let blocks = blocks_of(alloc, scopes.as_slice())?;
-    block_lines_from(alloc, &enums, blocks.as_slice())
+    put_blocks_by(alloc, program, scopes.as_slice(), lines)
 }
 
-/// The lines of these blocks of these enums.
-fn block_lines_from(
+/// The same, where the program opens these scopes.
+fn put_blocks_by<'a>(
     alloc: Global,
+    program: &'a Node,
+    scopes: &[OpenedScope<'a>],
+    lines: &mut String,
+) -> Result<(), OutOfMemory> {
+    let enums = enums_of(alloc, program, scopes)?;
+    let outcome = put_blocks_in(alloc, scopes, &enums, lines);
+    drop(enums);
+    outcome
+}
+
+/// Puts the lines of the blocks of these enums, which the scopes declare.
+fn put_blocks_in(
+    alloc: Global,
+    scopes: &[OpenedScope],
+    enums: &EnumConstants,
+    lines: &mut String,
+) -> Result<(), OutOfMemory> {
+    let blocks = blocks_of(alloc, scopes)?;
+    put_each_block(enums, blocks.as_slice(), lines)
+}
+
+/// Puts the lines of these blocks.
+fn put_each_block(
     enums: &EnumConstants,
     blocks: &[EnumBlock],
-) -> Result<String, OutOfMemory> {
-    let mut lines = String::new(alloc);
+    lines: &mut String,
+) -> Result<(), OutOfMemory> {
     for block in blocks {
-        push_block(enums, block, &mut lines)?;
+        put_block(enums, block, lines)?;
     }
-    Ok(lines)
+    Ok(())
 }
 
 /// The enums of the program, which opens these scopes.
@@ -146,17 +189,19 @@ pub fn enums_of<'a>(
 }
 
 /// Puts the line of a block.
-fn push_block(
+fn put_block(
     enums: &EnumConstants,
     block: &EnumBlock,
     lines: &mut String,
 ) -> Result<(), OutOfMemory> {
-    write!(lines, "{} {}", block.body.0, block.scope.0)?;
-    if enums.is_const(block.scope, block.name) {
-        lines.push_str(" const")?;
-    }
-    for body in enums.blocks_of(block.scope, block.name).unwrap_or(&[]) {
-        write!(lines, " {}", body.0)?;
-    }
-    Ok(lines.push('\n')?)
+    let is_const = enums.is_const(block.scope, block.name);
+    let front = [
+        Piece::Number(block.body.0),
+        Piece::Node(block.scope),
+        Piece::If(is_const, " const"),
+    ];
+    put(lines, &front)?;
+    let bodies = enums.blocks_of(block.scope, block.name).unwrap_or(&[]);
+    put_nodes(lines, bodies)?;
+    put(lines, &[Piece::Text("\n")])
 }

@@ -1,6 +1,6 @@
 //! What is told of decorators, of what they call, and of accessors.
 
-use crate::told::push_if;
+use crate::pieces::{Piece, put};
 use oxt_facts::told::{
     ToldAccessor, ToldCall, ToldDecorated, ToldElement, ToldObject, ToldStorage, ToldUse,
 };
@@ -12,15 +12,19 @@ use oxt_tree::name::Name;
 /// # Errors
 ///
 /// Fails only where memory runs out.
-pub fn push_called(
+pub fn put_called(
     number: u64,
     called: &ToldElement,
     lines: &mut String,
 ) -> Result<(), OutOfMemory> {
-    write!(lines, "{number} called")?;
-    push_if(called.stays, " stays", lines)?;
-    push_call(&called.call, lines)?;
-    Ok(lines.push('\n')?)
+    let front = [
+        Piece::Number(number),
+        Piece::Text(" called"),
+        Piece::If(called.stays, " stays"),
+    ];
+    put(lines, &front)?;
+    put_call(&called.call, lines)?;
+    put(lines, &[Piece::Text("\n")])
 }
 
 /// Puts `NUMBER accessor static moves`, its storage, the object that has it, and the call, if it gives one.
@@ -28,18 +32,22 @@ pub fn push_called(
 /// # Errors
 ///
 /// Fails only where memory runs out.
-pub fn push_accessor(
+pub fn put_accessor(
     number: u64,
     accessor: &ToldAccessor,
     lines: &mut String,
 ) -> Result<(), OutOfMemory> {
-    write!(lines, "{number} accessor")?;
-    push_if(accessor.is_static, " static", lines)?;
-    push_if(accessor.moves, " moves", lines)?;
-    push_storage(&accessor.storage, lines)?;
-    push_object(&accessor.object, lines)?;
-    push_call_of(accessor.call.as_ref(), lines)?;
-    Ok(lines.push('\n')?)
+    let front = [
+        Piece::Number(number),
+        Piece::Text(" accessor"),
+        Piece::If(accessor.is_static, " static"),
+        Piece::If(accessor.moves, " moves"),
+    ];
+    put(lines, &front)?;
+    put_storage(&accessor.storage, lines)?;
+    put_object(&accessor.object, lines)?;
+    put_call_of(accessor.call.as_ref(), lines)?;
+    put(lines, &[Piece::Text("\n")])
 }
 
 /// Puts `NUMBER decorated itself keeps calls`, its name, the one inside, and its alias, with `-` for what it has not.
@@ -47,22 +55,26 @@ pub fn push_accessor(
 /// # Errors
 ///
 /// Fails only where memory runs out.
-pub fn push_decorated(
+pub fn put_decorated(
     number: u64,
     class: &ToldDecorated,
     lines: &mut String,
 ) -> Result<(), OutOfMemory> {
-    write!(lines, "{number} decorated")?;
-    push_if(class.is_decorated, " itself", lines)?;
-    push_if(class.keeps_alias, " keeps", lines)?;
-    push_if(class.has_calls, " calls", lines)?;
-    match &class.name {
-        Some(name) => push_use(name, lines)?,
-        None => lines.push_str(" -")?,
-    }
-    push_tag(class.inner.as_ref(), lines)?;
-    push_tag(class.alias.as_ref(), lines)?;
-    Ok(lines.push('\n')?)
+    let front = [
+        Piece::Number(number),
+        Piece::Text(" decorated"),
+        Piece::If(class.is_decorated, " itself"),
+        Piece::If(class.keeps_alias, " keeps"),
+        Piece::If(class.has_calls, " calls"),
+    ];
+    put(lines, &front)?;
+    put_use_of(class.name.as_ref(), lines)?;
+    let behind = [
+        Piece::Name(class.inner.as_ref()),
+        Piece::Name(class.alias.as_ref()),
+        Piece::Text("\n"),
+    ];
+    put(lines, &behind)
 }
 
 /// Puts `NUMBER default itself` and the name of the class.
@@ -70,16 +82,20 @@ pub fn push_decorated(
 /// # Errors
 ///
 /// Fails only where memory runs out.
-pub fn push_default(
+pub fn put_default(
     number: u64,
     is_decorated: bool,
     name: &ToldUse,
     lines: &mut String,
 ) -> Result<(), OutOfMemory> {
-    write!(lines, "{number} default")?;
-    push_if(is_decorated, " itself", lines)?;
-    push_use(name, lines)?;
-    Ok(lines.push('\n')?)
+    let front = [
+        Piece::Number(number),
+        Piece::Text(" default"),
+        Piece::If(is_decorated, " itself"),
+    ];
+    put(lines, &front)?;
+    put_use(name, lines)?;
+    put(lines, &[Piece::Text("\n")])
 }
 
 /// Puts `NUMBER applied` and the place of a parameter, if it decorates one.
@@ -87,63 +103,72 @@ pub fn push_default(
 /// # Errors
 ///
 /// Fails only where memory runs out.
-pub fn push_applied(
-    number: u64,
-    place: Option<u64>,
-    lines: &mut String,
-) -> Result<(), OutOfMemory> {
-    match place {
-        Some(place) => Ok(writeln!(lines, "{number} applied {place}")?),
-        None => Ok(writeln!(lines, "{number} applied")?),
+pub fn put_applied(number: u64, place: Option<u64>, lines: &mut String) -> Result<(), OutOfMemory> {
+    put(lines, &[Piece::Number(number), Piece::Text(" applied")])?;
+    if place.is_some() {
+        put(lines, &[Piece::Maybe(place)])?;
     }
+    put(lines, &[Piece::Text("\n")])
 }
 
 /// Puts the call that something gives, if it gives one.
-pub fn push_call_of(call: Option<&ToldCall>, lines: &mut String) -> Result<(), OutOfMemory> {
+///
+/// # Errors
+///
+/// Fails only where memory runs out.
+pub fn put_call_of(call: Option<&ToldCall>, lines: &mut String) -> Result<(), OutOfMemory> {
     match call {
-        Some(call) => push_call(call, lines),
+        Some(call) => put_call(call, lines),
         None => Ok(()),
     }
 }
 
 /// Puts a call: `call CLASS static private field TAG`.
-fn push_call(call: &ToldCall, lines: &mut String) -> Result<(), OutOfMemory> {
-    lines.push_str(" call")?;
-    push_use(&call.class, lines)?;
-    push_if(call.is_static, " static", lines)?;
-    push_if(call.is_private, " private", lines)?;
-    push_if(call.is_field, " field", lines)?;
-    push_tag(call.tag.as_ref(), lines)
+fn put_call(call: &ToldCall, lines: &mut String) -> Result<(), OutOfMemory> {
+    put(lines, &[Piece::Text(" call")])?;
+    put_use(&call.class, lines)?;
+    let behind = [
+        Piece::If(call.is_static, " static"),
+        Piece::If(call.is_private, " private"),
+        Piece::If(call.is_field, " field"),
+        Piece::Name(call.tag.as_ref()),
+    ];
+    put(lines, &behind)
 }
 
 /// Puts the name of a storage, or the tag of the one from which it is made, with a star.
-fn push_storage(storage: &ToldStorage, lines: &mut String) -> Result<(), OutOfMemory> {
+fn put_storage(storage: &ToldStorage, lines: &mut String) -> Result<(), OutOfMemory> {
     match storage {
-        ToldStorage::Plain(name) => Ok(write!(lines, " #{}", name.as_str())?),
-        ToldStorage::Kept(tag) => Ok(write!(lines, " *{}", tag.as_str())?),
+        ToldStorage::Plain(name) => put_marked("#", name, lines),
+        ToldStorage::Kept(tag) => put_marked("*", tag, lines),
     }
 }
 
 /// Puts the object that has a storage.
-fn push_object(object: &ToldObject, lines: &mut String) -> Result<(), OutOfMemory> {
+fn put_object(object: &ToldObject, lines: &mut String) -> Result<(), OutOfMemory> {
     match object {
-        ToldObject::This => Ok(lines.push_str(" this")?),
-        ToldObject::Use(name) => push_use(name, lines),
+        ToldObject::This => put(lines, &[Piece::Text(" this")]),
+        ToldObject::Use(name) => put_use(name, lines),
+    }
+}
+
+/// Puts a name, or the tag of a made one, with a star, and `-` for none.
+fn put_use_of(name: Option<&ToldUse>, lines: &mut String) -> Result<(), OutOfMemory> {
+    match name {
+        Some(name) => put_use(name, lines),
+        None => put(lines, &[Piece::Text(" -")]),
     }
 }
 
 /// Puts a name, or the tag of a made one, with a star.
-fn push_use(name: &ToldUse, lines: &mut String) -> Result<(), OutOfMemory> {
+fn put_use(name: &ToldUse, lines: &mut String) -> Result<(), OutOfMemory> {
     match name {
-        ToldUse::Name(told) => Ok(write!(lines, " {}", told.name.as_str())?),
-        ToldUse::Made(tag) => Ok(write!(lines, " *{}", tag.as_str())?),
+        ToldUse::Name(told) => put_marked("", &told.name, lines),
+        ToldUse::Made(tag) => put_marked("*", tag, lines),
     }
 }
 
-/// Puts a tag, with `-` where there is none.
-fn push_tag(tag: Option<&Name>, lines: &mut String) -> Result<(), OutOfMemory> {
-    match tag {
-        Some(tag) => Ok(write!(lines, " {}", tag.as_str())?),
-        None => Ok(lines.push_str(" -")?),
-    }
+/// Puts a name behind a space and a mark.
+fn put_marked(mark: &str, name: &Name, lines: &mut String) -> Result<(), OutOfMemory> {
+    put(lines, &[Piece::Word(mark), Piece::Text(name.as_str())])
 }

@@ -1,13 +1,13 @@
 //! What is looked up of enums.
 
-use crate::constants::{enums_of, push_value};
-use crate::told::push_if;
+use crate::constants::{enums_of, put_value};
+use crate::pieces::{Piece, put, put_nodes};
 use oxt_enums::blocks::{EnumBlock, blocks_of};
 use oxt_enums::enums::EnumConstants;
 use oxt_enums::members::{Member, members_of};
 use oxt_names::constant::ConstantValue;
 use oxt_scopes::scopes::{OpenedScope, scopes_of};
-use oxt_tree::ids::{NodeId, OutOfMemory};
+use oxt_tree::ids::{NodeId, OutOfMemory, Span};
 use oxt_tree::tree::{Node, Program};
 use std::alloc::Global;
 use std::collections::BTreeSet;
@@ -57,7 +57,7 @@ fn names_of_members<'a>(
     Ok(names)
 }
 
-/// In this order, a line
+/// Puts, in this order, a line
 ///
 /// - `member NODE NAME BODY BEHIND` for each member, where `BEHIND` is the member in front of it or `-`
 /// - `block BODY SCOPE NAME` for each block, with `const` and `emitted` where it is so
@@ -72,28 +72,39 @@ fn names_of_members<'a>(
 /// # Errors
 ///
 /// Fails only where memory runs out.
-pub fn lines_of(alloc: Global, program: &Program) -> Result<String, OutOfMemory> {
+pub fn put_lines(alloc: Global, program: &Program, lines: &mut String) -> Result<(), OutOfMemory> {
     let scopes = scopes_of(alloc, &program.root, false)?;
-    let enums = enums_of(alloc, &program.root, scopes.as_slice())?;
-    lines_from(alloc, program, scopes.as_slice(), &enums)
+    put_by(alloc, program, scopes.as_slice(), lines)
 }
 
-/// The lines of the program, which opens these scopes and has these enums.
-fn lines_from<'a>(
+/// The same, where the program opens these scopes.
+fn put_by<'a>(
+    alloc: Global,
+    program: &'a Program,
+    scopes: &[OpenedScope<'a>],
+    lines: &mut String,
+) -> Result<(), OutOfMemory> {
+    let enums = enums_of(alloc, &program.root, scopes)?;
+    let outcome = put_all(alloc, program, scopes, &enums, lines);
+    drop(enums);
+    outcome
+}
+
+/// The same, where the program has these enums.
+fn put_all<'a>(
     alloc: Global,
     program: &'a Program,
     scopes: &[OpenedScope<'a>],
     enums: &EnumConstants<'a>,
-) -> Result<String, OutOfMemory> {
-    let mut lines = String::new(alloc);
-    push_parts(alloc, &program.root, scopes, enums, &mut lines)?;
-    push_values(alloc, program.ids.next, enums, &mut lines)?;
-    push_count(enums, &mut lines)?;
-    Ok(lines)
+    lines: &mut String,
+) -> Result<(), OutOfMemory> {
+    put_parts(alloc, &program.root, scopes, enums, lines)?;
+    put_values(alloc, program.ids.next, enums, lines)?;
+    put_count(enums, lines)
 }
 
 /// Puts the lines of the members and of the blocks, and what is looked up by their names.
-fn push_parts<'a>(
+fn put_parts<'a>(
     alloc: Global,
     program: &'a Node,
     scopes: &[OpenedScope<'a>],
@@ -101,20 +112,25 @@ fn push_parts<'a>(
     lines: &mut String,
 ) -> Result<(), OutOfMemory> {
     let members = members_of(alloc, program)?;
-    push_members(members.as_slice(), lines)?;
-    let blocks = blocks_of(alloc, scopes)?;
-    push_found(
-        alloc,
-        scopes,
-        members.as_slice(),
-        blocks.as_slice(),
-        enums,
-        lines,
-    )
+    put_members(members.as_slice(), lines)?;
+    put_found(alloc, scopes, members.as_slice(), enums, lines)
 }
 
 /// Puts the lines of the blocks, and what is looked up by their names and those of the members.
-fn push_found<'a>(
+fn put_found<'a>(
+    alloc: Global,
+    scopes: &[OpenedScope<'a>],
+    members: &[Member<'a>],
+    enums: &EnumConstants<'a>,
+    lines: &mut String,
+) -> Result<(), OutOfMemory> {
+    let blocks = blocks_of(alloc, scopes)?;
+    put_blocks(blocks.as_slice(), lines)?;
+    put_by_names(alloc, scopes, members, blocks.as_slice(), enums, lines)
+}
+
+/// Puts what is looked up by the names of the blocks and those of the members.
+fn put_by_names<'a>(
     alloc: Global,
     scopes: &[OpenedScope<'a>],
     members: &[Member<'a>],
@@ -122,56 +138,70 @@ fn push_found<'a>(
     enums: &EnumConstants<'a>,
     lines: &mut String,
 ) -> Result<(), OutOfMemory> {
-    push_blocks(blocks, lines)?;
     let names = Names::of(alloc, members, blocks)?;
-    push_bodies(alloc, blocks, &names, enums, lines)?;
-    push_scopes(alloc, scopes, &names, enums, lines)
+    let outcome = put_looked_up(alloc, scopes, blocks, &names, enums, lines);
+    drop(names);
+    outcome
+}
+
+/// Puts what is looked up in bodies and in scopes by these names.
+fn put_looked_up(
+    alloc: Global,
+    scopes: &[OpenedScope],
+    blocks: &[EnumBlock],
+    names: &Names,
+    enums: &EnumConstants,
+    lines: &mut String,
+) -> Result<(), OutOfMemory> {
+    put_bodies(alloc, blocks, names, enums, lines)?;
+    put_scopes(alloc, scopes, names, enums, lines)
 }
 
 /// Puts the lines of the members.
-fn push_members(members: &[Member], lines: &mut String) -> Result<(), OutOfMemory> {
+fn put_members(members: &[Member], lines: &mut String) -> Result<(), OutOfMemory> {
     for member in members {
-        push_member(member, lines)?;
+        put_member(member, lines)?;
     }
     Ok(())
 }
 
 /// Puts the line of a member.
-fn push_member(member: &Member, lines: &mut String) -> Result<(), OutOfMemory> {
-    let name = member.name.unwrap_or("?");
-    let block = member.place.block.0;
-    write!(lines, "member {} {name} {block}", member.node.id.0)?;
-    match member.place.previous {
-        Some(previous) => writeln!(lines, " {}", previous.0)?,
-        None => lines.push_str(" -\n")?,
-    }
-    Ok(())
+fn put_member(member: &Member, lines: &mut String) -> Result<(), OutOfMemory> {
+    let line = [
+        Piece::Text("member"),
+        Piece::Node(member.node.id),
+        Piece::Word(member.name.unwrap_or("?")),
+        Piece::Node(member.place.block),
+        Piece::Maybe(member.place.previous.map(|node| node.0)),
+        Piece::Text("\n"),
+    ];
+    put(lines, &line)
 }
 
 /// Puts the lines of the blocks.
-fn push_blocks(blocks: &[EnumBlock], lines: &mut String) -> Result<(), OutOfMemory> {
+fn put_blocks(blocks: &[EnumBlock], lines: &mut String) -> Result<(), OutOfMemory> {
     for block in blocks {
-        push_block(block, lines)?;
+        put_block(block, lines)?;
     }
     Ok(())
 }
 
 /// Puts the line of a block.
-fn push_block(block: &EnumBlock, lines: &mut String) -> Result<(), OutOfMemory> {
-    let EnumBlock {
-        body,
-        scope,
-        name,
-        ..
-    } = *block;
-    write!(lines, "block {} {} {name}", body.0, scope.0)?;
-    push_if(block.is_const, " const", lines)?;
-    push_if(block.is_emitted, " emitted", lines)?;
-    Ok(lines.push('\n')?)
+fn put_block(block: &EnumBlock, lines: &mut String) -> Result<(), OutOfMemory> {
+    let line = [
+        Piece::Text("block"),
+        Piece::Node(block.body),
+        Piece::Node(block.scope),
+        Piece::Word(block.name),
+        Piece::If(block.is_const, " const"),
+        Piece::If(block.is_emitted, " emitted"),
+        Piece::Text("\n"),
+    ];
+    put(lines, &line)
 }
 
 /// Puts the lines of what is looked up in bodies.
-fn push_bodies(
+fn put_bodies(
     alloc: Global,
     blocks: &[EnumBlock],
     names: &Names,
@@ -179,13 +209,13 @@ fn push_bodies(
     lines: &mut String,
 ) -> Result<(), OutOfMemory> {
     for block in blocks {
-        push_body(alloc, block.body, names, enums, lines)?;
+        put_body(alloc, block.body, names, enums, lines)?;
     }
     Ok(())
 }
 
 /// Puts the lines of what is looked up in a body.
-fn push_body(
+fn put_body(
     alloc: Global,
     body: NodeId,
     names: &Names,
@@ -194,15 +224,32 @@ fn push_body(
 ) -> Result<(), OutOfMemory> {
     for name in &names.members {
         if let Some(value) = enums.value_in_body(body, name) {
-            write!(lines, "body {} {name} ", body.0)?;
-            push_end(alloc, value, lines)?;
+            put_in_body(alloc, body, name, value, lines)?;
         }
     }
     Ok(())
 }
 
+/// Puts the line of a constant that is found in a body by that name.
+fn put_in_body(
+    alloc: Global,
+    body: NodeId,
+    name: &str,
+    value: &ConstantValue,
+    lines: &mut String,
+) -> Result<(), OutOfMemory> {
+    let front = [
+        Piece::Text("body"),
+        Piece::Node(body),
+        Piece::Word(name),
+        Piece::Text(" "),
+    ];
+    put(lines, &front)?;
+    put_end(alloc, value, lines)
+}
+
 /// Puts the lines of what is looked up in scopes.
-fn push_scopes(
+fn put_scopes(
     alloc: Global,
     scopes: &[OpenedScope],
     names: &Names,
@@ -210,13 +257,13 @@ fn push_scopes(
     lines: &mut String,
 ) -> Result<(), OutOfMemory> {
     for scope in scopes {
-        push_scope(alloc, scope.number, names, enums, lines)?;
+        put_scope(alloc, scope.number, names, enums, lines)?;
     }
     Ok(())
 }
 
 /// Puts the lines of what is looked up in a scope.
-fn push_scope(
+fn put_scope(
     alloc: Global,
     scope: NodeId,
     names: &Names,
@@ -224,37 +271,41 @@ fn push_scope(
     lines: &mut String,
 ) -> Result<(), OutOfMemory> {
     for name in &names.enums {
-        push_enum(scope, name, enums, lines)?;
-        push_in_enum(alloc, scope, name, names, enums, lines)?;
+        put_enum(scope, name, enums, lines)?;
+        put_in_enum(alloc, scope, name, names, enums, lines)?;
     }
     Ok(())
 }
 
 /// Puts the line of the blocks of an enum.
-fn push_enum(
+fn put_enum(
     scope: NodeId,
     name: &str,
     enums: &EnumConstants,
     lines: &mut String,
 ) -> Result<(), OutOfMemory> {
-    push_if(enums.is_const(scope, name), "const ", lines)?;
-    if let Some(bodies) = enums.blocks_of(scope, name) {
-        write!(lines, "enum {} {name}", scope.0)?;
-        push_numbers(bodies, lines)?;
+    put(lines, &[Piece::If(enums.is_const(scope, name), "const ")])?;
+    match enums.blocks_of(scope, name) {
+        Some(bodies) => put_enum_blocks(scope, name, bodies, lines),
+        None => Ok(()),
     }
-    Ok(())
 }
 
-/// Puts the numbers, and ends the line.
-fn push_numbers(numbers: &[NodeId], lines: &mut String) -> Result<(), OutOfMemory> {
-    for number in numbers {
-        write!(lines, " {}", number.0)?;
-    }
-    Ok(lines.push('\n')?)
+/// Puts an enum with the bodies of its blocks.
+fn put_enum_blocks(
+    scope: NodeId,
+    name: &str,
+    bodies: &[NodeId],
+    lines: &mut String,
+) -> Result<(), OutOfMemory> {
+    let front = [Piece::Text("enum"), Piece::Node(scope), Piece::Word(name)];
+    put(lines, &front)?;
+    put_nodes(lines, bodies)?;
+    put(lines, &[Piece::Text("\n")])
 }
 
 /// Puts the lines of what is looked up in an enum.
-fn push_in_enum(
+fn put_in_enum(
     alloc: Global,
     scope: NodeId,
     enum_name: &str,
@@ -264,15 +315,28 @@ fn push_in_enum(
 ) -> Result<(), OutOfMemory> {
     for name in &names.members {
         if let Some(value) = enums.value_in_enum(scope, enum_name, name) {
-            write!(lines, "of {} {enum_name} {name} ", scope.0)?;
-            push_end(alloc, value, lines)?;
+            put(lines, &[Piece::Text("of"), Piece::Node(scope)])?;
+            put_named(alloc, enum_name, name, value, lines)?;
         }
     }
     Ok(())
 }
 
+/// Puts the names of an enum and of a member, and the constant.
+fn put_named<'a>(
+    alloc: Global,
+    enum_name: &'a str,
+    name: &'a str,
+    value: &ConstantValue,
+    lines: &mut String,
+) -> Result<(), OutOfMemory> {
+    let names = [Piece::Word(enum_name), Piece::Word(name), Piece::Text(" ")];
+    put(lines, &names)?;
+    put_end(alloc, value, lines)
+}
+
 /// Puts the lines of what is looked up by numbers below that one.
-fn push_values(
+fn put_values(
     alloc: Global,
     next: u64,
     enums: &EnumConstants,
@@ -280,24 +344,50 @@ fn push_values(
 ) -> Result<(), OutOfMemory> {
     for number in 1..next {
         if let Some(value) = enums.value_of(NodeId(number)) {
-            write!(lines, "value {number} ")?;
-            push_end(alloc, value, lines)?;
+            put_of_node(alloc, NodeId(number), value, lines)?;
         }
     }
     Ok(())
 }
 
+/// Puts the line of a node that has a constant.
+fn put_of_node(
+    alloc: Global,
+    node: NodeId,
+    value: &ConstantValue,
+    lines: &mut String,
+) -> Result<(), OutOfMemory> {
+    let front = [Piece::Text("value"), Piece::Node(node), Piece::Text(" ")];
+    put(lines, &front)?;
+    put_end(alloc, value, lines)
+}
+
 /// Puts a constant, and ends the line.
-fn push_end(alloc: Global, value: &ConstantValue, lines: &mut String) -> Result<(), OutOfMemory> {
-    push_value(alloc, Some(value), lines)?;
-    Ok(lines.push('\n')?)
+fn put_end(alloc: Global, value: &ConstantValue, lines: &mut String) -> Result<(), OutOfMemory> {
+    put_value(alloc, Some(value), lines)?;
+    put(lines, &[Piece::Text("\n")])
 }
 
 /// Puts the count of the constants, and the line of the first member that would be too large.
-fn push_count(enums: &EnumConstants, lines: &mut String) -> Result<(), OutOfMemory> {
-    writeln!(lines, "constants {}", enums.constants().len())?;
-    if let Some(span) = enums.first_wide() {
-        writeln!(lines, "wide {}", span.start)?;
+fn put_count(enums: &EnumConstants, lines: &mut String) -> Result<(), OutOfMemory> {
+    let line = [
+        Piece::Text("constants "),
+        Piece::Count(enums.constants().len()),
+        Piece::Text("\n"),
+    ];
+    put(lines, &line)?;
+    match enums.first_wide() {
+        Some(span) => put_start(span, lines),
+        None => Ok(()),
     }
-    Ok(())
+}
+
+/// Puts where the first member that would be too large starts.
+fn put_start(span: Span, lines: &mut String) -> Result<(), OutOfMemory> {
+    let line = [
+        Piece::Text("wide "),
+        Piece::Number(u64::from(span.start)),
+        Piece::Text("\n"),
+    ];
+    put(lines, &line)
 }

@@ -1,5 +1,6 @@
 //! What stands in the way of lowering enums.
 
+use crate::pieces::{Piece, put};
 use oxt_enum_checks::misnamed::first_misnamed;
 use oxt_enum_checks::shadowed::{ShadowedName, first_shadowed};
 use oxt_enum_checks::wide::first_wide;
@@ -9,59 +10,56 @@ use oxt_tree::ids::{NodeId, OutOfMemory};
 use oxt_tree::tree::Node;
 use std::alloc::Global;
 
-/// The first name that a lowered enum could not have, the first that would mean something else in one, with the
+/// Puts the first name that a lowered enum could not have, the first that would mean something else in one, with the
 /// name that it would be, and the first member that would be too large, a line each; `-` where there is none.
 ///
 /// # Errors
 ///
 /// Fails only where memory runs out.
-pub fn lines_of(alloc: Global, program: &Node) -> Result<String, OutOfMemory> {
+pub fn put_lines(alloc: Global, program: &Node, lines: &mut String) -> Result<(), OutOfMemory> {
     let scoping = resolve(alloc, program, false)?;
-    lines_from(alloc, program, &scoping)
+    let outcome = put_found(alloc, program, &scoping, lines);
+    drop(scoping);
+    outcome
 }
 
-/// The lines of the program, which has that table of scopes.
-fn lines_from(alloc: Global, program: &Node, scoping: &Scoping) -> Result<String, OutOfMemory> {
-    let mut lines = String::new(alloc);
-    push_misnamed(alloc, program, scoping, &mut lines)?;
-    push_shadowed(alloc, program, scoping, &mut lines)?;
-    let wide = first_wide(program, scoping, false);
-    push_found("wide", wide.map(|member| member.node), &mut lines)?;
-    Ok(lines)
-}
-
-/// Puts the line of the first misnamed.
-fn push_misnamed(
+/// Puts what is found in the program, which has that table of scopes.
+fn put_found(
     alloc: Global,
     program: &Node,
     scoping: &Scoping,
     lines: &mut String,
 ) -> Result<(), OutOfMemory> {
-    let found = first_misnamed(alloc, program, scoping, false)?;
-    push_found("misnamed", found, lines)
+    let misnamed = first_misnamed(alloc, program, scoping, false)?;
+    put_node("misnamed", misnamed, lines)?;
+    let shadowed = first_shadowed(alloc, program, scoping, false)?;
+    put_shadowed(shadowed, lines)?;
+    let wide = first_wide(program, scoping, false);
+    put_node("wide", wide.map(|member| member.node), lines)
 }
 
 /// Puts the line of the first shadowed name.
-fn push_shadowed(
-    alloc: Global,
-    program: &Node,
-    scoping: &Scoping,
-    lines: &mut String,
-) -> Result<(), OutOfMemory> {
-    match first_shadowed(alloc, program, scoping, false)? {
+fn put_shadowed(found: Option<ShadowedName>, lines: &mut String) -> Result<(), OutOfMemory> {
+    match found {
         Some(ShadowedName { node, name }) => {
-            writeln!(lines, "shadowed {} {}", node.0, name.as_str())?;
+            let line = [
+                Piece::Text("shadowed"),
+                Piece::Node(node),
+                Piece::Word(name.as_str()),
+                Piece::Text("\n"),
+            ];
+            put(lines, &line)
         }
-        None => lines.push_str("shadowed -\n")?,
+        None => put(lines, &[Piece::Text("shadowed -\n")]),
     }
-    Ok(())
 }
 
-/// Puts the line of what is found.
-fn push_found(what: &str, found: Option<NodeId>, lines: &mut String) -> Result<(), OutOfMemory> {
-    match found {
-        Some(node) => writeln!(lines, "{what} {}", node.0)?,
-        None => writeln!(lines, "{what} -")?,
-    }
-    Ok(())
+/// Puts the line of a node that is found to be so.
+fn put_node(what: &str, found: Option<NodeId>, lines: &mut String) -> Result<(), OutOfMemory> {
+    let line = [
+        Piece::Text(what),
+        Piece::Maybe(found.map(|node| node.0)),
+        Piece::Text("\n"),
+    ];
+    put(lines, &line)
 }

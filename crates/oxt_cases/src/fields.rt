@@ -1,7 +1,8 @@
 //! What becomes of the elements of classes.
 
 use crate::nodes::nodes_of;
-use crate::told::{plan_of, push_if};
+use crate::pieces::{Piece, put, put_nodes};
+use crate::told::plan_of;
 use oxt_fields::class::{
     constructor_of, elements_of, get_super_call_position, is_derived, is_property, parameters_of,
     statements_of,
@@ -12,13 +13,15 @@ use oxt_fields::written::never_written_nodes;
 use oxt_grammar::field::Field;
 use oxt_grammar::kind::Kind;
 use oxt_options::options::TransformOptions;
+use oxt_options::plan::Plan;
 use oxt_resolve::resolve::resolve;
+use oxt_scoping::scoping::Scoping;
 use oxt_tree::ids::OutOfMemory;
 use oxt_tree::tree::{Node, Part};
 use std::alloc::Global;
 
-/// A line for each class, with lines for its parameter properties and its fields, and one for the names that nothing
-/// writes to: the numbers of their nodes.
+/// Puts a line for each class, with lines for its parameter properties and its fields, and one for the names that
+/// nothing writes to: the numbers of their nodes.
 ///
 /// Of a class stand its number, whether it is derived and whether its private fields may move, the number of its
 /// constructor or `-`, and the place behind `super` there; of a property its number and its name; of an element that
@@ -28,41 +31,83 @@ use std::alloc::Global;
 /// # Errors
 ///
 /// Fails only where memory runs out.
-pub fn lines_of(
+pub fn put_lines(
     alloc: Global,
     program: &Node,
     options: &TransformOptions,
-) -> Result<String, OutOfMemory> {
-    let mut lines = never_written_line(alloc, program)?;
-    push_classes(alloc, program, options, &mut lines)?;
-    Ok(lines)
+    lines: &mut String,
+) -> Result<(), OutOfMemory> {
+    put_never_written(alloc, program, lines)?;
+    put_classes(alloc, program, options, lines)
 }
 
-/// The line of the names that nothing writes to.
-fn never_written_line(alloc: Global, program: &Node) -> Result<String, OutOfMemory> {
+/// Puts the line of the names that nothing writes to.
+fn put_never_written(alloc: Global, program: &Node, lines: &mut String) -> Result<(), OutOfMemory> {
     let scoping = resolve(alloc, program, false)?;
-    let nodes = never_written_nodes(alloc, program, &scoping)?;
-    let mut lines = String::from_str(alloc, "never written")?;
-    for node in &nodes {
-        write!(lines, " {}", node.0)?;
-    }
-    lines.push('\n')?;
-    Ok(lines)
+    let outcome = put_never_written_by(alloc, program, &scoping, lines);
+    drop(scoping);
+    outcome
+}
+
+/// The same, where that is the table of scopes.
+fn put_never_written_by(
+    alloc: Global,
+    program: &Node,
+    scoping: &Scoping,
+    lines: &mut String,
+) -> Result<(), OutOfMemory> {
+    let nodes = never_written_nodes(alloc, program, scoping)?;
+    put(lines, &[Piece::Text("never written")])?;
+    put_nodes(lines, nodes.as_slice())?;
+    put(lines, &[Piece::Text("\n")])
 }
 
 /// Puts the lines of the classes.
-fn push_classes(
+fn put_classes(
     alloc: Global,
     program: &Node,
     options: &TransformOptions,
     lines: &mut String,
 ) -> Result<(), OutOfMemory> {
     let scoping = resolve(alloc, program, options.decorator.legacy)?;
-    let plan = plan_of(alloc, program, &scoping, options)?;
-    let rules = FieldRules::new(options, &plan);
-    for node in nodes_of(alloc, program)? {
+    let plan = plan_of(alloc, program, &scoping, options);
+    drop(scoping);
+    put_classes_of(alloc, plan?, program, options, lines)
+}
+
+/// Puts the lines of the classes of a program that has that plan.
+fn put_classes_of(
+    alloc: Global,
+    plan: Plan,
+    program: &Node,
+    options: &TransformOptions,
+    lines: &mut String,
+) -> Result<(), OutOfMemory> {
+    let outcome = put_classes_by(alloc, FieldRules::new(options, &plan), program, lines);
+    drop(plan);
+    outcome
+}
+
+/// Puts the lines of the classes under the rules.
+fn put_classes_by(
+    alloc: Global,
+    rules: FieldRules,
+    program: &Node,
+    lines: &mut String,
+) -> Result<(), OutOfMemory> {
+    let nodes = nodes_of(alloc, program)?;
+    put_classes_in(rules, nodes.as_slice(), lines)
+}
+
+/// Puts the lines of those of the nodes that are classes.
+fn put_classes_in(
+    rules: FieldRules,
+    nodes: &[&Node],
+    lines: &mut String,
+) -> Result<(), OutOfMemory> {
+    for node in nodes {
         if is_class(node) {
-            push_class(rules, node, lines)?;
+            put_class(rules, node, lines)?;
         }
     }
     Ok(())
@@ -74,44 +119,70 @@ fn is_class(node: &Node) -> bool {
 }
 
 /// Puts the lines of a class.
-fn push_class(rules: FieldRules, class: &Node, lines: &mut String) -> Result<(), OutOfMemory> {
+fn put_class(rules: FieldRules, class: &Node, lines: &mut String) -> Result<(), OutOfMemory> {
     let elements = elements_of(class);
     let hoists = hoists_private(elements);
-    write!(lines, "{} class", class.id.0)?;
-    push_if(is_derived(class), " derived", lines)?;
-    push_if(hoists, " hoists", lines)?;
-    push_constructor(constructor_of(elements), lines)?;
+    let front = [
+        Piece::Number(class.id.0),
+        Piece::Text(" class"),
+        Piece::If(is_derived(class), " derived"),
+        Piece::If(hoists, " hoists"),
+    ];
+    put(lines, &front)?;
+    put_constructor(constructor_of(elements), lines)?;
+    put_elements(rules, hoists, elements, lines)
+}
+
+/// Puts the lines of the elements that do not stay as they are.
+fn put_elements(
+    rules: FieldRules,
+    hoists: bool,
+    elements: &[Part],
+    lines: &mut String,
+) -> Result<(), OutOfMemory> {
     for element in elements {
-        push_element(rules, hoists, element, lines)?;
+        put_element(rules, hoists, element, lines)?;
     }
     Ok(())
 }
 
 /// Puts what stands of a constructor behind its class, and the lines of its properties.
-fn push_constructor(constructor: Option<&Node>, lines: &mut String) -> Result<(), OutOfMemory> {
+fn put_constructor(constructor: Option<&Node>, lines: &mut String) -> Result<(), OutOfMemory> {
     match constructor {
         Some(constructor) => {
             let place = get_super_call_position(statements_of(constructor));
-            writeln!(lines, " {} {place}", constructor.id.0)?;
-            push_properties(parameters_of(constructor), lines)
+            let line = [
+                Piece::Node(constructor.id),
+                Piece::Text(" "),
+                Piece::Count(place),
+                Piece::Text("\n"),
+            ];
+            put(lines, &line)?;
+            put_properties(parameters_of(constructor), lines)
         }
-        None => Ok(lines.push_str(" -\n")?),
+        None => put(lines, &[Piece::Text(" -\n")]),
     }
 }
 
 /// Puts the lines of the parameters that are properties.
-fn push_properties(parameters: &[Part], lines: &mut String) -> Result<(), OutOfMemory> {
+fn put_properties(parameters: &[Part], lines: &mut String) -> Result<(), OutOfMemory> {
     for parameter in parameters {
-        push_property(parameter, lines)?;
+        put_property(parameter, lines)?;
     }
     Ok(())
 }
 
 /// Puts the line of a parameter that is a property.
-fn push_property(parameter: &Part, lines: &mut String) -> Result<(), OutOfMemory> {
+fn put_property(parameter: &Part, lines: &mut String) -> Result<(), OutOfMemory> {
     match parameter {
         Part::Node(node) if is_property(node) => {
-            Ok(writeln!(lines, "{} property {}", node.id.0, name_of(node))?)
+            let line = [
+                Piece::Number(node.id.0),
+                Piece::Text(" property"),
+                Piece::Word(name_of(node)),
+                Piece::Text("\n"),
+            ];
+            put(lines, &line)
         }
         _ => Ok(()),
     }
@@ -126,20 +197,20 @@ fn name_of(parameter: &Node) -> &str {
 }
 
 /// Puts the line of an element that does not stay as it is.
-fn push_element(
+fn put_element(
     rules: FieldRules,
     hoists: bool,
     element: &Part,
     lines: &mut String,
 ) -> Result<(), OutOfMemory> {
     match element {
-        Part::Node(node) => push_fate(rules, hoists, node, lines),
+        Part::Node(node) => put_fate(rules, hoists, node, lines),
         _ => Ok(()),
     }
 }
 
 /// Puts the line of the node.
-fn push_fate(
+fn put_fate(
     rules: FieldRules,
     hoists: bool,
     node: &Node,
@@ -148,17 +219,21 @@ fn push_fate(
     let number = node.id.0;
     match fate_of(rules, hoists, node) {
         Fate::Stays => Ok(()),
-        Fate::Goes => Ok(writeln!(lines, "{number} goes")?),
-        Fate::LeavesKey => Ok(writeln!(lines, "{number} key")?),
+        Fate::Goes => put(lines, &[Piece::Number(number), Piece::Text(" goes\n")]),
+        Fate::LeavesKey => put(lines, &[Piece::Number(number), Piece::Text(" key\n")]),
         Fate::Moves {
             stays,
             has_temporary,
         } => {
-            write!(lines, "{number} moves")?;
-            push_if(moves_to_constructor(rules, hoists, node), " in", lines)?;
-            push_if(stays, " stays", lines)?;
-            push_if(has_temporary, " kept", lines)?;
-            Ok(lines.push('\n')?)
+            let line = [
+                Piece::Number(number),
+                Piece::Text(" moves"),
+                Piece::If(moves_to_constructor(rules, hoists, node), " in"),
+                Piece::If(stays, " stays"),
+                Piece::If(has_temporary, " kept"),
+                Piece::Text("\n"),
+            ];
+            put(lines, &line)
         }
     }
 }

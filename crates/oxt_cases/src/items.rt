@@ -61,13 +61,13 @@ fn put_atoms(alloc: Global, atoms: &[Atom], values: &mut Vec<Value>) -> Result<(
 fn atom_value(alloc: Global, atom: &Atom) -> Result<Value, AllocError>
     ensures { IfOk result (λ value. view value ≡ atom_data (atom_doc atom.now)) }
 {
-    Ok(match atom {
-        Atom::Nothing => Value::Null,
-        Atom::Flag(flag) => Value::Bool(*flag),
-        Atom::Number(number) => Value::from(*number),
-        Atom::Text(name) => Value::try_from_str(alloc, name.as_str())?,
-        Atom::Word(word) => Value::try_from_str(alloc, word.text())?,
-        Atom::Kind(kind) => Value::try_from_str(alloc, kind.name())?,
-        Atom::Binding(binding) => Value::try_from_str(alloc, binding.text())?,
-    })
+    match atom {
+        Atom::Nothing => Ok(Value::Null),
+        Atom::Flag(flag) => Ok(Value::Bool(*flag)),
+        Atom::Number(number) => Ok(Value::from(*number)),
+        Atom::Text(name) => Value::try_from_str(alloc, name.as_str()),
+        Atom::Word(word) => Value::try_from_str(alloc, word.text()),
+        Atom::Kind(kind) => Value::try_from_str(alloc, kind.name()),
+        Atom::Binding(binding) => Value::try_from_str(alloc, binding.text()),
+    }
 }

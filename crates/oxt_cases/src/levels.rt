@@ -1,36 +1,50 @@
 //! The first words at the level of statements.
 
+use crate::pieces::{Piece, put};
 use oxt_faults::level::{FoundWord, first_level_word, first_level_word_in};
 use oxt_grammar::field::Field;
 use oxt_tree::ids::OutOfMemory;
-use oxt_tree::tree::Node;
-use std::alloc::Global;
+use oxt_tree::tree::{Node, Part};
 
-/// A line for each statement of the program, and one for all of them: the first word at their level and the
+/// Puts a line for each statement of the program, and one for all of them: the first word at their level and the
 /// number of its node, or `-`.
 ///
 /// # Errors
 ///
 /// Fails only where memory runs out.
-pub fn lines_of(alloc: Global, program: &Node) -> Result<String, OutOfMemory> {
+pub fn put_lines(program: &Node, lines: &mut String) -> Result<(), OutOfMemory> {
     let statements = program.list(Field::Body);
-    let mut lines = String::new(alloc);
+    put_each(statements, lines)?;
+    put_found(first_level_word_in(false, statements), lines)
+}
+
+/// Puts a line for each of the statements.
+fn put_each(statements: &[Part], lines: &mut String) -> Result<(), OutOfMemory> {
     for statement in statements {
-        let word = match statement.as_node() {
-            Some(statement) => first_level_word(false, statement),
-            None => None,
-        };
-        push_found(word, &mut lines)?;
+        put_found(word_in(statement), lines)?;
     }
-    push_found(first_level_word_in(false, statements), &mut lines)?;
-    Ok(lines)
+    Ok(())
+}
+
+/// The first word at the level of the statement.
+fn word_in(statement: &Part) -> Option<FoundWord> {
+    match statement.as_node() {
+        Some(statement) => first_level_word(false, statement),
+        None => None,
+    }
 }
 
 /// Puts the line of a word.
-fn push_found(found: Option<FoundWord>, lines: &mut String) -> Result<(), OutOfMemory> {
+fn put_found(found: Option<FoundWord>, lines: &mut String) -> Result<(), OutOfMemory> {
     match found {
-        Some(FoundWord { word, node }) => writeln!(lines, "{} {}", word.as_str(), node.0)?,
-        None => lines.push_str("-\n")?,
+        Some(FoundWord { word, node }) => {
+            let line = [
+                Piece::Text(word.as_str()),
+                Piece::Node(node),
+                Piece::Text("\n"),
+            ];
+            put(lines, &line)
+        }
+        None => put(lines, &[Piece::Text("-\n")]),
     }
-    Ok(())
 }

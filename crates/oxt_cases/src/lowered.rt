@@ -1,15 +1,18 @@
 //! Programs with their enums lowered.
 
-use crate::case::push_json;
+use crate::case::put_json;
+use crate::pieces::{Piece, put};
 use crate::told::listed_plan;
 use oxt_ctx::context::TraverseCtx;
 use oxt_json_write::write_tree;
 use oxt_lower::pass::TypeScriptEnum;
 use oxt_options::options::{DecoratorOptions, Module, TypeScriptOptions};
+use oxt_options::plan::Plan;
 use oxt_options::state::TransformState;
 use oxt_resolve::resolve::resolve;
-use oxt_tree::ids::OutOfMemory;
-use oxt_tree::tree::Program;
+use oxt_scoping::scoping::Scoping;
+use oxt_tree::ids::{NodeIds, OutOfMemory};
+use oxt_tree::tree::{Node, Program};
 use oxt_walk::walk::walk_program;
 use serde_json::Value;
 use std::alloc::Global;
@@ -22,18 +25,19 @@ const STATE: TransformState = TransformState {
     is_class_properties_plugin_enabled: false,
 };
 
-/// The program with its enums lowered, as JSON.
+/// Puts the program with its enums lowered, as JSON.
 ///
 /// # Errors
 ///
 /// Fails only where memory runs out.
-pub fn lines_of(
+pub fn put_lines(
     alloc: Global,
     program: &mut Program,
     options: &TypeScriptOptions,
-) -> Result<String, OutOfMemory> {
+    lines: &mut String,
+) -> Result<(), OutOfMemory> {
     lower(alloc, program, options)?;
-    json_of(alloc, program)
+    put_program(alloc, program, lines)
 }
 
 /// Lowers the enums of the program.
@@ -43,8 +47,19 @@ fn lower(
     options: &TypeScriptOptions,
 ) -> Result<(), OutOfMemory> {
     let mut ctx = context_of(alloc, program, options)?;
+    let outcome = lower_enums(&mut program.root, options, &mut ctx);
+    drop(ctx);
+    outcome
+}
+
+/// Lowers the enums of the tree in that context.
+fn lower_enums(
+    root: &mut Node,
+    options: &TypeScriptOptions,
+    ctx: &mut TraverseCtx,
+) -> Result<(), OutOfMemory> {
     let mut pass = TypeScriptEnum::new(options.optimize_const_enums, options.optimize_enums);
-    walk_program(&mut pass, &mut program.root, &mut ctx)
+    walk_program(&mut pass, root, ctx)
 }
 
 /// What is known of the program.
@@ -60,17 +75,37 @@ fn context_of(
         &scoping,
         options,
         DecoratorOptions::defaults(),
-    )?;
-    Ok(TraverseCtx::new(alloc, scoping, plan, STATE, program.ids))
+    );
+    context_with(alloc, scoping, plan, program.ids)
 }
 
-/// The JSON of the program, with the keys of its objects in order.
-fn json_of(alloc: Global, program: &Program) -> Result<String, OutOfMemory> {
-    let bytes = write_tree(alloc, program)?;
-    let mut lines = String::new(alloc);
-    if let Ok(value) = Value::from_slice(alloc, bytes.as_slice()) {
-        push_json(alloc, &value, &mut lines)?;
+/// The context of a program that has that table of scopes, where it has a plan.
+fn context_with(
+    alloc: Global,
+    scoping: Scoping,
+    plan: Result<Plan, OutOfMemory>,
+    ids: NodeIds,
+) -> Result<TraverseCtx, OutOfMemory> {
+    match plan {
+        Ok(plan) => Ok(TraverseCtx::new(alloc, scoping, plan, STATE, ids)),
+        Err(fault) => {
+            drop(scoping);
+            Err(fault)
+        }
     }
-    lines.push('\n')?;
-    Ok(lines)
+}
+
+/// Puts the JSON of the program, with the keys of its objects in order.
+fn put_program(alloc: Global, program: &Program, lines: &mut String) -> Result<(), OutOfMemory> {
+    let bytes = write_tree(alloc, program)?;
+    put_sorted(alloc, bytes.as_slice(), lines)?;
+    put(lines, &[Piece::Text("\n")])
+}
+
+/// Puts the JSON that the bytes spell, with the keys of its objects in order.
+fn put_sorted(alloc: Global, bytes: &[u8], lines: &mut String) -> Result<(), OutOfMemory> {
+    match Value::from_slice(alloc, bytes) {
+        Ok(value) => Ok(put_json(alloc, &value, lines)?),
+        Err(_) => Ok(()),
+    }
 }

@@ -36,6 +36,7 @@ mod lowered;
 mod names;
 mod namespaces;
 mod nodes;
+mod pieces;
 mod run;
 mod scopes;
 mod show;

@@ -1,7 +1,7 @@
 //! The owners of names, and what scopes declare.
 
 use crate::nodes::nodes_of;
-use crate::told::push_if;
+use crate::pieces::{Piece, put};
 use oxt_declares::declaration::{Declaration, Sight};
 use oxt_declares::declares::declarations_of;
 use oxt_grammar::kind::Kind;
@@ -15,30 +15,29 @@ use std::collections::BTreeMap;
 /// How names are spelled, by the numbers of their nodes.
 type Spellings<'a> = BTreeMap<u64, &'a str>;
 
-/// A line for each name that the tree uses, in the order of the text: the name, the number of the node that opens
+/// Puts a line for each name that the tree uses, in the order of the text: the name, the number of the node that opens
 /// the scope of its group, or `-` where the name is free, and `write`, `update` or `type` where it is no mere
 /// read.
 ///
 /// # Errors
 ///
 /// Fails only where memory runs out.
-pub fn lines_of(alloc: Global, program: &Node) -> Result<String, OutOfMemory> {
+pub fn put_owners(alloc: Global, program: &Node, lines: &mut String) -> Result<(), OutOfMemory> {
     let spellings = spellings_of(alloc, program)?;
     let names = owners_of(alloc, program)?;
-    lines_from(alloc, &spellings, names.as_slice())
+    put_each(&spellings, names.as_slice(), lines)
 }
 
-/// The lines of these names, which are spelled so.
-fn lines_from(
-    alloc: Global,
+/// Puts the lines of these names, which are spelled so.
+fn put_each(
     spellings: &Spellings,
     names: &[OwnedName],
-) -> Result<String, OutOfMemory> {
-    let mut lines = String::new(alloc);
+    lines: &mut String,
+) -> Result<(), OutOfMemory> {
     for owned in names {
-        push_line(owned, spellings, &mut lines)?;
+        put_owned(owned, spellings, lines)?;
     }
-    Ok(lines)
+    Ok(())
 }
 
 /// The same, with the number of the name's node in front.
@@ -46,53 +45,71 @@ fn lines_from(
 /// # Errors
 ///
 /// Fails only where memory runs out.
-pub fn numbered_lines_of(alloc: Global, program: &Node) -> Result<String, OutOfMemory> {
+pub fn put_numbered(alloc: Global, program: &Node, lines: &mut String) -> Result<(), OutOfMemory> {
     let spellings = spellings_of(alloc, program)?;
     let names = owners_of(alloc, program)?;
-    numbered_lines_from(alloc, &spellings, names.as_slice())
+    put_each_numbered(&spellings, names.as_slice(), lines)
 }
 
-/// The lines of these names, with their numbers.
-fn numbered_lines_from(
-    alloc: Global,
+/// Puts the lines of these names, with their numbers.
+fn put_each_numbered(
     spellings: &Spellings,
     names: &[OwnedName],
-) -> Result<String, OutOfMemory> {
-    let mut lines = String::new(alloc);
+    lines: &mut String,
+) -> Result<(), OutOfMemory> {
     for owned in names {
-        write!(lines, "{} ", owned.node.0)?;
-        push_line(owned, spellings, &mut lines)?;
+        put(lines, &[Piece::Number(owned.node.0), Piece::Text(" ")])?;
+        put_owned(owned, spellings, lines)?;
     }
-    Ok(lines)
+    Ok(())
 }
 
 /// Puts the line of one name.
-fn push_line(
+fn put_owned(
     owned: &OwnedName,
     spellings: &Spellings,
     lines: &mut String,
 ) -> Result<(), OutOfMemory> {
-    lines.push_str(spellings.get(&owned.node.0).copied().unwrap_or("?"))?;
-    match owned.owner {
-        Some(owner) => write!(lines, " {}", owner.0)?,
-        None => lines.push_str(" -")?,
+    let line = [
+        Piece::Text(spelling_in(spellings, owned.node.0)),
+        Piece::Maybe(owned.owner.map(|owner| owner.0)),
+        Piece::Text(ending_of(owned.usage)),
+    ];
+    put(lines, &line)
+}
+
+/// How the node of that number is spelled.
+fn spelling_in<'a>(spellings: &Spellings<'a>, number: u64) -> &'a str {
+    match spellings.get(&number) {
+        Some(spelling) => *spelling,
+        None => "?",
     }
-    Ok(lines.push_str(match owned.usage {
+}
+
+/// What ends the line of a name that is used so.
+fn ending_of(usage: Usage) -> &'static str {
+    match usage {
         Usage::Read => "\n",
         Usage::Write => " write\n",
         Usage::ReadWrite => " update\n",
         Usage::Type => " type\n",
-    })?)
+    }
 }
 
 /// How the names in the tree are spelled.
 fn spellings_of(alloc: Global, program: &Node) -> Result<Spellings<'_>, OutOfMemory> {
     let nodes = nodes_of(alloc, program)?;
     let mut spellings = BTreeMap::new(alloc);
-    for node in &nodes {
-        spell(node, &mut spellings)?;
-    }
+    spell_each(nodes.as_slice(), &mut spellings)?;
     Ok(spellings)
+}
+
+/// Notes how each of the nodes is spelled.
+fn spell_each<'a>(nodes: &[&'a Node], spellings: &mut Spellings<'a>) -> Result<(), OutOfMemory> {
+    for node in nodes {
+        spell(node, spellings)?;
+    }
+    Ok(())
 }
 
 /// Notes how the node is spelled, if it is a name that is used.
@@ -105,43 +122,68 @@ fn spell<'a>(node: &'a Node, spellings: &mut Spellings<'a>) -> Result<(), OutOfM
     Ok(())
 }
 
-/// A line for each declaration of each node that opens a scope: the number of that node, the name, and the number
+/// Puts a line for each declaration of each node that opens a scope: the number of that node, the name, and the number
 /// of the node that is the name, with `type` where it is a type alone, `parameter` where type parameters see it,
 /// `ambient` where it says `declare`, and `body` where it has one.
 ///
 /// # Errors
 ///
 /// Fails only where memory runs out.
-pub fn declaration_lines_of(alloc: Global, program: &Node) -> Result<String, OutOfMemory> {
+pub fn put_declarations(
+    alloc: Global,
+    program: &Node,
+    lines: &mut String,
+) -> Result<(), OutOfMemory> {
     let nodes = nodes_of(alloc, program)?;
-    declaration_lines_from(alloc, nodes.as_slice())
+    put_declared_by_each(alloc, nodes.as_slice(), lines)
 }
 
-/// The lines of what these nodes declare.
-fn declaration_lines_from(alloc: Global, nodes: &[&Node]) -> Result<String, OutOfMemory> {
-    let mut lines = String::new(alloc);
+/// Puts the lines of what these nodes declare.
+fn put_declared_by_each(
+    alloc: Global,
+    nodes: &[&Node],
+    lines: &mut String,
+) -> Result<(), OutOfMemory> {
     for node in nodes {
-        push_declarations(alloc, node, &mut lines)?;
-    }
-    Ok(lines)
-}
-
-/// Puts the lines of what the node declares.
-fn push_declarations(alloc: Global, node: &Node, lines: &mut String) -> Result<(), OutOfMemory> {
-    for declaration in &declarations_of(alloc, node)? {
-        write!(lines, "{} ", node.id.0)?;
-        push_declaration(declaration, lines)?;
+        put_declared_by(alloc, node, lines)?;
     }
     Ok(())
 }
 
-/// Puts what a declaration is.
-fn push_declaration(declaration: &Declaration, lines: &mut String) -> Result<(), OutOfMemory> {
+/// Puts the lines of what the node declares.
+fn put_declared_by(alloc: Global, node: &Node, lines: &mut String) -> Result<(), OutOfMemory> {
+    let declarations = declarations_of(alloc, node)?;
+    put_each_declaration(node, declarations.as_slice(), lines)
+}
+
+/// Puts the lines of these declarations of the node.
+fn put_each_declaration(
+    node: &Node,
+    declarations: &[Declaration],
+    lines: &mut String,
+) -> Result<(), OutOfMemory> {
+    for declaration in declarations {
+        put_declaration(node, declaration, lines)?;
+    }
+    Ok(())
+}
+
+/// Puts the line of a declaration of the node.
+fn put_declaration(
+    node: &Node,
+    declaration: &Declaration,
+    lines: &mut String,
+) -> Result<(), OutOfMemory> {
     let sort = declaration.sort;
-    write!(lines, "{} {}", declaration.name, declaration.node.0)?;
-    push_if(sort.is_type_alone(), " type", lines)?;
-    push_if(sort.shows(Sight::TypeParameter), " parameter", lines)?;
-    push_if(declaration.is_ambient, " ambient", lines)?;
-    push_if(declaration.body.is_some(), " body", lines)?;
-    Ok(lines.push('\n')?)
+    let line = [
+        Piece::Number(node.id.0),
+        Piece::Word(declaration.name),
+        Piece::Node(declaration.node),
+        Piece::If(sort.is_type_alone(), " type"),
+        Piece::If(sort.shows(Sight::TypeParameter), " parameter"),
+        Piece::If(declaration.is_ambient, " ambient"),
+        Piece::If(declaration.body.is_some(), " body"),
+        Piece::Text("\n"),
+    ];
+    put(lines, &line)
 }

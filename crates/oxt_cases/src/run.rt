@@ -27,6 +27,18 @@ pub fn run_tables(rt: &HostRuntime) -> Result<()> {
 /// Runs a table.
 fn run_table(rt: &HostRuntime, table: Table, tally: &mut Tally) -> Result<()> {
     let value = table_in(rt, table.file())?;
+    let outcome = run_rows(rt, table, &value, tally);
+    drop(value);
+    outcome
+}
+
+/// Runs the cases that the table's value lists.
+fn run_rows(
+    rt: &(impl Print + AllocGlobal),
+    table: Table,
+    value: &Value,
+    tally: &mut Tally,
+) -> Result<()> {
     let cases = value.as_array().context("a table is no list")?;
     run_cases(rt, table, cases.as_slice(), tally)
 }
@@ -60,7 +72,9 @@ fn passes(rt: &(impl Print + AllocGlobal), table: Table, row: &Value) -> Result<
 /// What is found of a case.
 fn found_of(alloc: Global, table: Table, case: &Case) -> Result<String> {
     let mut trees = case.trees(alloc)?;
-    table.lines(alloc, &mut trees)
+    let lines = table.lines(alloc, &mut trees);
+    drop(trees);
+    lines
 }
 
 /// Prints the line of a case of which that is found.

@@ -3,6 +3,7 @@ ghost use Rattle.std.specs.Prelude.{◌<◌, IsSome, length};
 ghost use Rattle.oxt_scoping.specs.Scoped.{live_at};
 
 use crate::nodes::nodes_of;
+use crate::pieces::{Piece, put};
 use bitflags::{Flag, Flags};
 use oxt_names::ids::{ReferenceId, ScopeId, SymbolId};
 use oxt_resolve::resolve::resolve;
@@ -12,43 +13,54 @@ use oxt_tree::ids::{NodeId, OutOfMemory};
 use oxt_tree::tree::Node;
 use std::alloc::Global;
 
-/// A line for each scope, for each symbol at its first declaration, and for each name that is used, in the
+/// Puts a line for each scope, for each symbol at its first declaration, and for each name that is used, in the
 /// order of the text.
 ///
 /// # Errors
 ///
 /// Fails only where memory runs out.
-pub fn lines_of(alloc: Global, program: &Node) -> Result<String, OutOfMemory> {
+pub fn put_lines(alloc: Global, program: &Node, lines: &mut String) -> Result<(), OutOfMemory> {
     let nodes = nodes_of(alloc, program)?;
-    let scoping = resolve(alloc, program, false)?;
-    lines_from(alloc, &scoping, nodes.as_slice())
+    put_of_nodes(alloc, program, nodes.as_slice(), lines)
 }
 
-/// The lines of these nodes.
-fn lines_from(alloc: Global, scoping: &Scoping, nodes: &[&Node]) -> Result<String, OutOfMemory> {
-    let mut lines = String::new(alloc);
+/// The same, where the tree has these nodes.
+fn put_of_nodes(
+    alloc: Global,
+    program: &Node,
+    nodes: &[&Node],
+    lines: &mut String,
+) -> Result<(), OutOfMemory> {
+    let scoping = resolve(alloc, program, false)?;
+    let outcome = put_each(&scoping, nodes, lines);
+    drop(scoping);
+    outcome
+}
+
+/// Puts the lines of these nodes.
+fn put_each(scoping: &Scoping, nodes: &[&Node], lines: &mut String) -> Result<(), OutOfMemory> {
     for node in nodes {
-        push_own(scoping, node.id, &mut lines)?;
+        put_own(scoping, node.id, lines)?;
     }
-    Ok(lines)
+    Ok(())
 }
 
 /// Puts the lines of the node of that number alone.
-fn push_own(scoping: &Scoping, node: NodeId, lines: &mut String) -> Result<(), OutOfMemory> {
+fn put_own(scoping: &Scoping, node: NodeId, lines: &mut String) -> Result<(), OutOfMemory> {
     if let Some(scope) = scoping.scope_of(node) {
-        push_scope(scoping, scope, node, lines)?;
+        put_scope(scoping, scope, node, lines)?;
     }
     if let Some(symbol) = scoping.symbol_of(node) {
-        push_binding(scoping, symbol, node, lines)?;
+        put_binding(scoping, symbol, node, lines)?;
     }
     if let Some(reference) = scoping.reference_of(node) {
-        push_use(scoping, reference, lines)?;
+        put_use(scoping, reference, lines)?;
     }
     Ok(())
 }
 
 /// Puts `scope ID NODE PARENT FLAGS`, with `-` where no scope is around it.
-fn push_scope(
+fn put_scope(
     scoping: &Scoping,
     scope: ScopeId,
     node: NodeId,
@@ -56,14 +68,19 @@ fn push_scope(
 ) -> Result<(), OutOfMemory>
     requires { scope.0 < length scoping.now.scopes }
 {
-    write!(lines, "scope {} {}", scope.0, node.0)?;
-    push_number(scoping.scope_parent_id(scope).map(|parent| parent.0), lines)?;
-    push_flags(scoping.scope_flags(scope), lines)?;
-    Ok(lines.push('\n')?)
+    let front = [
+        Piece::Text("scope "),
+        Piece::Number(scope.0),
+        Piece::Node(node),
+        Piece::Maybe(scoping.scope_parent_id(scope).map(|parent| parent.0)),
+    ];
+    put(lines, &front)?;
+    put_flags(scoping.scope_flags(scope), lines)?;
+    put(lines, &[Piece::Text("\n")])
 }
 
 /// Puts the line of the symbol, where the node is its first declaration.
-fn push_binding(
+fn put_binding(
     scoping: &Scoping,
     symbol: SymbolId,
     node: NodeId,
@@ -72,64 +89,61 @@ fn push_binding(
     requires { symbol.0 < length scoping.now.symbols }
 {
     match scoping.symbol_redeclarations(symbol).first() {
-        Some(first) if first.node.0 == node.0 => push_symbol(scoping, symbol, lines),
+        Some(first) if first.node.0 == node.0 => put_symbol(scoping, symbol, lines),
         _ => Ok(()),
     }
 }
 
 /// Puts `symbol ID NAME SCOPE FLAGS; NODE FLAGS emits; ..`, with a part for each declaration.
-fn push_symbol(scoping: &Scoping, symbol: SymbolId, lines: &mut String) -> Result<(), OutOfMemory>
+fn put_symbol(scoping: &Scoping, symbol: SymbolId, lines: &mut String) -> Result<(), OutOfMemory>
     requires { symbol.0 < length scoping.now.symbols }
 {
-    let name = scoping.symbol_name(symbol).as_str();
-    let scope = scoping.symbol_scope_id(symbol).0;
-    write!(lines, "symbol {} {name} {scope}", symbol.0)?;
-    push_flags(scoping.symbol_flags(symbol), lines)?;
-    for declaration in scoping.symbol_redeclarations(symbol) {
-        push_declaration(declaration, lines)?;
+    let front = [
+        Piece::Text("symbol "),
+        Piece::Number(symbol.0),
+        Piece::Word(scoping.symbol_name(symbol).as_str()),
+        Piece::Maybe(Some(scoping.symbol_scope_id(symbol).0)),
+    ];
+    put(lines, &front)?;
+    put_flags(scoping.symbol_flags(symbol), lines)?;
+    put_declarations(scoping.symbol_redeclarations(symbol), lines)
+}
+
+/// Puts the part of each declaration, and the end of the line.
+fn put_declarations(declarations: &[Redeclaration], lines: &mut String) -> Result<(), OutOfMemory> {
+    for declaration in declarations {
+        put_declaration(declaration, lines)?;
     }
-    Ok(lines.push('\n')?)
+    put(lines, &[Piece::Text("\n")])
 }
 
 /// Puts `; NODE FLAGS emits`.
-fn push_declaration(declaration: &Redeclaration, lines: &mut String) -> Result<(), OutOfMemory> {
-    write!(lines, "; {}", declaration.node.0)?;
-    push_flags(declaration.flags, lines)?;
-    if declaration.emits {
-        lines.push_str(" emits")?;
-    }
-    Ok(())
+fn put_declaration(declaration: &Redeclaration, lines: &mut String) -> Result<(), OutOfMemory> {
+    put(lines, &[Piece::Text(";"), Piece::Node(declaration.node)])?;
+    put_flags(declaration.flags, lines)?;
+    put(lines, &[Piece::If(declaration.emits, " emits")])
 }
 
 /// Puts `use NODE SYMBOL FLAGS`, with `-` where the name is free.
-fn push_use(
-    scoping: &Scoping,
-    reference: ReferenceId,
-    lines: &mut String,
-) -> Result<(), OutOfMemory>
+fn put_use(scoping: &Scoping, reference: ReferenceId, lines: &mut String) -> Result<(), OutOfMemory>
     requires { IsSome (live_at scoping.now.references reference.0) }
 {
     let reference = scoping.get_reference(reference);
-    write!(lines, "use {}", reference.node.0)?;
-    push_number(reference.symbol.map(|symbol| symbol.0), lines)?;
-    push_flags(reference.flags, lines)?;
-    Ok(lines.push('\n')?)
-}
-
-/// Puts a number, and `-` for none.
-fn push_number(number: Option<u64>, lines: &mut String) -> Result<(), OutOfMemory> {
-    match number {
-        Some(number) => write!(lines, " {number}")?,
-        None => lines.push_str(" -")?,
-    }
-    Ok(())
+    let front = [
+        Piece::Text("use"),
+        Piece::Node(reference.node),
+        Piece::Maybe(reference.symbol.map(|symbol| symbol.0)),
+    ];
+    put(lines, &front)?;
+    put_flags(reference.flags, lines)?;
+    put(lines, &[Piece::Text("\n")])
 }
 
 /// Puts the names of the flags that are set.
-fn push_flags<F: Flags + Copy>(flags: F, lines: &mut String) -> Result<(), OutOfMemory> {
+fn put_flags<F: Flags + Copy>(flags: F, lines: &mut String) -> Result<(), OutOfMemory> {
     for flag in F::flags() {
         if flags.contains(*flag.value()) {
-            write!(lines, " {}", flag.name())?;
+            put(lines, &[Piece::Word(flag.name())])?;
         }
     }
     Ok(())

@@ -32,7 +32,9 @@ fn show_source(rt: &HostRuntime) -> Result<()> {
 /// Prints the lines of another table.
 fn show_lines(rt: &HostRuntime, table: Table) -> Result<()> {
     let mut trees = trees_on_input(rt, table)?;
-    let text = table.lines(rt.alloc(), &mut trees)?;
+    let lines = table.lines(rt.alloc(), &mut trees);
+    drop(trees);
+    let text = lines?;
     let text = text.as_str();
     print!(rt; "{text}")?;
     Ok(())
@@ -43,10 +45,17 @@ fn show_lines(rt: &HostRuntime, table: Table) -> Result<()> {
 fn trees_on_input(rt: &HostRuntime, table: Table) -> Result<Trees> {
     let bytes = bytes_on_input(rt)?;
     match object_in(rt.alloc(), bytes.as_slice()) {
-        Some(object) => Trees::from_value(rt.alloc(), &object),
+        Some(object) => trees_in(rt.alloc(), object),
         None if table.compares_two() => bail!("there is no output"),
         None => Trees::from_bytes(rt.alloc(), bytes.as_slice()),
     }
+}
+
+/// The trees of an object.
+fn trees_in(alloc: Global, object: Value) -> Result<Trees> {
+    let trees = Trees::from_value(alloc, &object);
+    drop(object);
+    trees
 }
 
 /// The object with a `tree` that the bytes spell, if they spell one.

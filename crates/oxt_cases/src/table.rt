@@ -6,7 +6,9 @@ use crate::{
     scopes, told, words,
 };
 use anyhow::Result;
+use oxt_options::options::TransformOptions;
 use oxt_tree::ids::OutOfMemory;
+use oxt_tree::tree::Node;
 use std::alloc::{AllocError, Global};
 
 /// A table, by what its lines tell of a tree.
@@ -148,50 +150,96 @@ impl Table {
     ///
     /// One that says that the output is not there; or want of memory.
     pub fn lines(self, alloc: Global, trees: &mut Trees) -> Result<String> {
-        if self.compares_two() {
-            return self.pair_lines(alloc, trees);
-        }
-        Ok(self.tree_lines(alloc, trees).map_err(|_| AllocError)?)
+        let mut lines = String::new(alloc);
+        self.put_lines(alloc, trees, &mut lines)?;
+        Ok(lines)
     }
 
-    /// The lines for a tree and an output.
-    fn pair_lines(self, alloc: Global, trees: &Trees) -> Result<String> {
-        let source = &trees.tree.root;
-        let output = &trees.output()?.root;
-        let lines = match self {
-            Table::Pair => words::output_lines(alloc, source, output),
-            _ => differences::lines_of(alloc, source, output),
-        };
-        Ok(lines.map_err(|_| AllocError)?)
-    }
-
-    /// The lines for a tree alone.
-    fn tree_lines(self, alloc: Global, trees: &mut Trees) -> Result<String, OutOfMemory> {
-        let Trees {
-            tree: program,
-            options,
-            ..
-        } = trees;
+    /// Puts the lines for these trees.
+    fn put_lines(self, alloc: Global, trees: &mut Trees, lines: &mut String) -> Result<()> {
         match self {
-            Table::Names => names::lines_of(alloc, &program.root),
-            Table::Owners => names::numbered_lines_of(alloc, &program.root),
-            Table::Declarations => names::declaration_lines_of(alloc, &program.root),
-            Table::Members => constants::lines_of(alloc, &program.root),
-            Table::Constants => constants::numbered_lines_of(alloc, &program.root),
-            Table::Blocks => constants::block_lines_of(alloc, &program.root),
-            Table::Enums => enums::lines_of(alloc, program),
-            Table::Scopes => scopes::lines_of(alloc, &program.root),
-            Table::FirstBlocks => blocks::first_lines_of(alloc, &program.root),
-            Table::Clash => blocks::clash_lines_of(alloc, &program.root),
-            Table::EnumFaults => faults::lines_of(alloc, &program.root),
-            Table::Fields => fields::lines_of(alloc, &program.root, options),
-            Table::ClassFaults => class_faults::lines_of(alloc, &program.root, options),
-            Table::Told => told::lines_of(alloc, program, options),
-            Table::Levels => levels::lines_of(alloc, &program.root),
-            Table::Lowered => lowered::lines_of(alloc, program, &options.typescript),
-            Table::ToldWord => words::told_lines(alloc, &program.root, options),
-            Table::Owned => words::owned_lines(alloc, &program.root, options),
-            _ => words::source_lines(alloc, &program.root),
+            Table::Pair | Table::Differences => {
+                let output = trees.output()?;
+                or_memory(self.put_pair(alloc, &trees.tree.root, &output.root, lines))
+            }
+            _ => or_memory(self.put_tree(alloc, trees, lines)),
         }
     }
+
+    /// Puts the lines for a tree and an output.
+    fn put_pair(
+        self,
+        alloc: Global,
+        source: &Node,
+        output: &Node,
+        lines: &mut String,
+    ) -> Result<(), OutOfMemory> {
+        match self {
+            Table::Pair => words::put_output(alloc, source, output, lines),
+            _ => differences::put_lines(alloc, source, output, lines),
+        }
+    }
+
+    /// Puts the lines for a tree alone.
+    fn put_tree(
+        self,
+        alloc: Global,
+        trees: &mut Trees,
+        lines: &mut String,
+    ) -> Result<(), OutOfMemory> {
+        match self {
+            Table::Lowered => {
+                let options = &trees.options.typescript;
+                lowered::put_lines(alloc, &mut trees.tree, options, lines)
+            }
+            Table::Enums => enums::put_lines(alloc, &trees.tree, lines),
+            Table::Told => told::put_lines(alloc, &trees.tree, &trees.options, lines),
+            _ => self.put_read(alloc, &trees.tree.root, &trees.options, lines),
+        }
+    }
+
+    /// Puts the lines for a tree that is read under options.
+    fn put_read(
+        self,
+        alloc: Global,
+        program: &Node,
+        options: &TransformOptions,
+        lines: &mut String,
+    ) -> Result<(), OutOfMemory> {
+        match self {
+            Table::Fields => fields::put_lines(alloc, program, options, lines),
+            Table::ClassFaults => class_faults::put_lines(alloc, program, options, lines),
+            Table::ToldWord => words::put_told(alloc, program, options, lines),
+            Table::Owned => words::put_owned(alloc, program, options, lines),
+            _ => self.put_plain(alloc, program, lines),
+        }
+    }
+
+    /// Puts the lines for a tree that is read without options.
+    fn put_plain(
+        self,
+        alloc: Global,
+        program: &Node,
+        lines: &mut String,
+    ) -> Result<(), OutOfMemory> {
+        match self {
+            Table::Names => names::put_owners(alloc, program, lines),
+            Table::Owners => names::put_numbered(alloc, program, lines),
+            Table::Declarations => names::put_declarations(alloc, program, lines),
+            Table::Members => constants::put_members(alloc, program, lines),
+            Table::Constants => constants::put_numbered(alloc, program, lines),
+            Table::Blocks => constants::put_blocks(alloc, program, lines),
+            Table::Scopes => scopes::put_lines(alloc, program, lines),
+            Table::FirstBlocks => blocks::put_first(alloc, program, lines),
+            Table::Clash => blocks::put_clash(alloc, program, lines),
+            Table::EnumFaults => faults::put_lines(alloc, program, lines),
+            Table::Levels => levels::put_lines(program, lines),
+            _ => words::put_source(alloc, program, lines),
+        }
+    }
+}
+
+/// The same, with want of memory as an error of any kind.
+fn or_memory(outcome: Result<(), OutOfMemory>) -> Result<()> {
+    Ok(outcome.map_err(|_| AllocError)?)
 }

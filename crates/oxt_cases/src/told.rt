@@ -1,8 +1,9 @@
 //! What is told of the nodes of a program.
-use crate::classes::{push_gains, push_moves};
-use crate::constants::push_value;
-use crate::decorated::{push_accessor, push_applied, push_called, push_decorated, push_default};
-use crate::namespaces::{push_export, push_namespace, push_quasi, push_stored};
+use crate::classes::{put_gains, put_moves};
+use crate::constants::put_value;
+use crate::decorated::{put_accessor, put_applied, put_called, put_decorated, put_default};
+use crate::namespaces::{put_export, put_namespace, put_quasi, put_stored};
+use crate::pieces::{Piece, put};
 use oxt_enum_checks::first::first_blocks;
 use oxt_facts::told::{MemberValue, Told, ToldBlock, ToldMember, ToldNodes};
 use oxt_fields::aliases::alias_uses;
@@ -35,8 +36,22 @@ pub fn told_nodes(
     options: &TransformOptions,
 ) -> Result<ToldNodes, OutOfMemory> {
     let scoping = resolve(alloc, program, options.decorator.legacy)?;
-    let plan = plan_of(alloc, program, &scoping, options)?;
-    told_of_source(alloc, program, &scoping, &plan, options)
+    let told = told_by(alloc, program, &scoping, options);
+    drop(scoping);
+    told
+}
+
+/// The same, where that is the table of scopes.
+fn told_by(
+    alloc: Global,
+    program: &Node,
+    scoping: &Scoping,
+    options: &TransformOptions,
+) -> Result<ToldNodes, OutOfMemory> {
+    let plan = plan_of(alloc, program, scoping, options)?;
+    let told = told_of_source(alloc, program, scoping, &plan, options);
+    drop(plan);
+    told
 }
 
 /// The plan for what is kept of the modules of the program, for its blocks of enums and namespaces, for the names
@@ -58,9 +73,35 @@ pub fn plan_of(
         &options.typescript,
         options.decorator,
     )?;
-    let aliases = alias_uses(alloc, program, scoping, FieldRules::new(options, &plan))?;
-    plan.set_aliases(alloc, aliases)?;
-    Ok(plan)
+    match note_aliases(alloc, program, scoping, options, &mut plan) {
+        Ok(()) => Ok(plan),
+        Err(fault) => {
+            drop(plan);
+            Err(fault)
+        }
+    }
+}
+
+/// Notes the names that are read as aliases of decorated classes.
+fn note_aliases(
+    alloc: Global,
+    program: &Node,
+    scoping: &Scoping,
+    options: &TransformOptions,
+    plan: &mut Plan,
+) -> Result<(), OutOfMemory> {
+    let aliases = aliases_by(alloc, program, scoping, FieldRules::new(options, plan))?;
+    plan.set_aliases(alloc, aliases)
+}
+
+/// The names that are read as aliases of decorated classes under the rules.
+fn aliases_by(
+    alloc: Global,
+    program: &Node,
+    scoping: &Scoping,
+    rules: FieldRules,
+) -> Result<Vec<(NodeId, NodeId)>, OutOfMemory> {
+    alias_uses(alloc, program, scoping, rules)
 }
 
 /// The plan without the names that are read as aliases, where decorators are lowered so.
@@ -76,20 +117,29 @@ pub fn listed_plan(
     decorator: DecoratorOptions,
 ) -> Result<Plan, OutOfMemory> {
     let metadata = Metadata::of(alloc, program, scoping, decorator)?;
-    let mut lists = PlanLists::empty(alloc);
-    note_types(alloc, &metadata, &mut lists)?;
     let legacy = decorator.legacy;
+    let lists = lists_with(alloc, program, scoping, &metadata, typescript, legacy);
+    drop(metadata);
+    Plan::new(alloc, lists?)
+}
+
+/// What is listed of the program, for which metadata writes that.
+fn lists_with(
+    alloc: Global,
+    program: &Node,
+    scoping: &Scoping,
+    metadata: &Metadata,
+    typescript: &TypeScriptOptions,
+    legacy: bool,
+) -> Result<PlanLists, OutOfMemory> {
+    let mut lists = PlanLists::empty(alloc);
+    note_types(alloc, metadata, &mut lists)?;
+    let named = metadata.named();
     note_kept(
-        alloc,
-        program,
-        scoping,
-        metadata.named(),
-        typescript,
-        legacy,
-        &mut lists,
+        alloc, program, scoping, named, typescript, legacy, &mut lists,
     )?;
-    lists.first = first_blocks(alloc, program, scoping)?;
-    Plan::new(alloc, lists)
+    note_names(alloc, program, scoping, &mut lists)?;
+    Ok(lists)
 }
 
 /// Notes what metadata writes.
@@ -103,7 +153,7 @@ fn note_types(
     Ok(())
 }
 
-/// Notes what is kept of modules, and what is known of the names of the program with it.
+/// Notes what is kept of modules, and what is inlined and dropped with it.
 fn note_kept(
     alloc: Global,
     program: &Node,
@@ -116,12 +166,23 @@ fn note_kept(
     let kept = kept_nodes(alloc, program, scoping, named, typescript, legacy)?;
     lists.inlined = inlined_expressions(alloc, program, scoping, &kept, typescript)?;
     lists.dropped = dropped_blocks(alloc, program, scoping, &kept, named, typescript, legacy)?;
-    lists.never_written = never_written_nodes(alloc, program, scoping)?;
     lists.kept = kept.into_nodes();
     Ok(())
 }
 
-/// A line for each node of which something is told: its number and `block`, `member`, `bare`, `inlined`, `gone`,
+/// Notes the blocks before which nothing of their name emits code, and the names that nothing writes to.
+fn note_names(
+    alloc: Global,
+    program: &Node,
+    scoping: &Scoping,
+    lists: &mut PlanLists,
+) -> Result<(), OutOfMemory> {
+    lists.first = first_blocks(alloc, program, scoping)?;
+    lists.never_written = never_written_nodes(alloc, program, scoping)?;
+    Ok(())
+}
+
+/// Puts a line for each node of which something is told: its number and `block`, `member`, `bare`, `inlined`, `gone`,
 /// `listless`, `strict`, `quasi`, `namespace`, `export`, `stored`, `gains`, `moves`, `key`, `called`, `accessor`, `decorated`,
 /// `named`, `default`, `applied`, `alias` or `inner`. Behind it stand the name of
 /// the enum, of a block whether it is first, the program's own and pure, of a member its name, its value and whether it
@@ -131,116 +192,177 @@ fn note_kept(
 /// # Errors
 ///
 /// Fails only where memory runs out.
-pub fn lines_of(
+pub fn put_lines(
     alloc: Global,
     program: &Program,
     options: &TransformOptions,
-) -> Result<String, OutOfMemory> {
+    lines: &mut String,
+) -> Result<(), OutOfMemory> {
     let told = told_nodes(alloc, &program.root, options)?;
-    lines_from(alloc, program.ids.next, &told)
+    let outcome = put_each(alloc, program.ids.next, &told, lines);
+    drop(told);
+    outcome
 }
 
-/// The lines of the nodes whose numbers are below that one.
-fn lines_from(alloc: Global, next: u64, told: &ToldNodes) -> Result<String, OutOfMemory> {
-    let mut lines = String::new(alloc);
+/// Puts the lines of the nodes whose numbers are below that one.
+fn put_each(
+    alloc: Global,
+    next: u64,
+    told: &ToldNodes,
+    lines: &mut String,
+) -> Result<(), OutOfMemory> {
     for number in 1..next {
-        push_told(alloc, number, told.of(NodeId(number)), &mut lines)?;
+        put_told(alloc, number, told.of(NodeId(number)), lines)?;
     }
-    Ok(lines)
+    Ok(())
 }
 
 /// Puts the line of a node, if something is told of it.
-fn push_told(
+fn put_told(
     alloc: Global,
     number: u64,
     told: Option<&Told>,
     lines: &mut String,
 ) -> Result<(), OutOfMemory> {
     match told {
-        Some(Told::Block(block)) => push_block(number, block, lines),
-        Some(Told::Member(member)) => push_member(alloc, number, member, lines),
-        Some(Told::Bare(owner, _)) => Ok(writeln!(lines, "{number} bare {}", owner.as_str())?),
-        Some(Told::Inlined(constant)) => push_inlined(alloc, number, constant, lines),
-        Some(Told::Gone) => Ok(writeln!(lines, "{number} gone")?),
-        Some(Told::Listless) => Ok(writeln!(lines, "{number} listless")?),
-        Some(Told::Strict) => Ok(writeln!(lines, "{number} strict")?),
-        Some(Told::Quasi(quasi)) => push_quasi(number, quasi, lines),
-        Some(Told::Namespace(namespace)) => push_namespace(number, namespace, lines),
-        Some(Told::Export(export)) => push_export(number, export, lines),
-        Some(Told::Stored(stored)) => push_stored(number, stored, lines),
-        Some(Told::Gains(gaining)) => push_gains(number, gaining, lines),
-        Some(Told::Moves(moving)) => push_moves(number, moving, lines),
-        Some(Told::LeavesKey(is_last)) => push_key(number, *is_last, lines),
-        Some(told) => push_legacy(number, told, lines),
+        Some(Told::Block(block)) => put_block(number, block, lines),
+        Some(Told::Member(member)) => put_member(alloc, number, member, lines),
+        Some(Told::Bare(owner, _)) => put_word(number, " bare", owner.as_str(), lines),
+        Some(Told::Inlined(constant)) => put_inlined(alloc, number, constant, lines),
+        Some(Told::Gone) => put_short(number, " gone\n", lines),
+        Some(Told::Listless) => put_short(number, " listless\n", lines),
+        Some(Told::Strict) => put_short(number, " strict\n", lines),
+        Some(Told::Quasi(quasi)) => put_quasi(number, quasi, lines),
+        Some(Told::Namespace(namespace)) => put_namespace(number, namespace, lines),
+        Some(Told::Export(export)) => put_export(number, export, lines),
+        Some(Told::Stored(stored)) => put_stored(number, stored, lines),
+        Some(Told::Gains(gaining)) => put_gains(number, gaining, lines),
+        Some(Told::Moves(moving)) => put_moves(number, moving, lines),
+        Some(Told::LeavesKey(is_last)) => put_key(number, *is_last, lines),
+        Some(told) => put_legacy(number, told, lines),
         None => Ok(()),
     }
 }
 
 /// Puts the line of a node of which something is told where decorators are lowered.
-fn push_legacy(number: u64, told: &Told, lines: &mut String) -> Result<(), OutOfMemory> {
+fn put_legacy(number: u64, told: &Told, lines: &mut String) -> Result<(), OutOfMemory> {
     match told {
-        Told::Called(element) => push_called(number, element, lines),
-        Told::Accessor(accessor) => push_accessor(number, accessor, lines),
-        Told::Decorated(class) => push_decorated(number, class, lines),
-        Told::Named(tag) => Ok(writeln!(lines, "{number} named {}", tag.as_str())?),
-        Told::DefaultClass(is_decorated, name) => push_default(number, *is_decorated, name, lines),
-        Told::Applied(place) => push_applied(number, *place, lines),
-        Told::Alias(tag) => Ok(writeln!(lines, "{number} alias {}", tag.as_str())?),
-        Told::Inner(group) => Ok(writeln!(lines, "{number} inner {group}")?),
+        Told::Called(element) => put_called(number, element, lines),
+        Told::Accessor(accessor) => put_accessor(number, accessor, lines),
+        Told::Decorated(class) => put_decorated(number, class, lines),
+        Told::Named(tag) => put_word(number, " named", tag.as_str(), lines),
+        Told::DefaultClass(is_decorated, name) => put_default(number, *is_decorated, name, lines),
+        Told::Applied(place) => put_applied(number, *place, lines),
+        Told::Alias(tag) => put_word(number, " alias", tag.as_str(), lines),
+        Told::Inner(group) => put_inner(number, *group, lines),
         _ => Ok(()),
     }
 }
 
+/// Puts the line of a node of which that alone is told.
+fn put_short(number: u64, what: &str, lines: &mut String) -> Result<(), OutOfMemory> {
+    put(lines, &[Piece::Number(number), Piece::Text(what)])
+}
+
+/// Puts the line of a node of which that is told, and a name.
+fn put_word<'a>(
+    number: u64,
+    what: &'a str,
+    word: &'a str,
+    lines: &mut String,
+) -> Result<(), OutOfMemory> {
+    let line = [
+        Piece::Number(number),
+        Piece::Text(what),
+        Piece::Word(word),
+        Piece::Text("\n"),
+    ];
+    put(lines, &line)
+}
+
+/// Puts the line of a name inside a class, which has that group.
+fn put_inner(number: u64, group: u64, lines: &mut String) -> Result<(), OutOfMemory> {
+    let line = [
+        Piece::Number(number),
+        Piece::Text(" inner"),
+        Piece::Maybe(Some(group)),
+        Piece::Text("\n"),
+    ];
+    put(lines, &line)
+}
+
 /// Puts the line of a field that leaves its key.
-fn push_key(number: u64, is_last: bool, lines: &mut String) -> Result<(), OutOfMemory> {
-    write!(lines, "{number} key")?;
-    push_if(is_last, " last", lines)?;
-    Ok(lines.push('\n')?)
+fn put_key(number: u64, is_last: bool, lines: &mut String) -> Result<(), OutOfMemory> {
+    let line = [
+        Piece::Number(number),
+        Piece::Text(" key"),
+        Piece::If(is_last, " last"),
+        Piece::Text("\n"),
+    ];
+    put(lines, &line)
 }
 
 /// Puts the line of an expression that is inlined.
-fn push_inlined(
+fn put_inlined(
     alloc: Global,
     number: u64,
     constant: &ConstantValue,
     lines: &mut String,
 ) -> Result<(), OutOfMemory> {
-    write!(lines, "{number} inlined ")?;
-    push_value(alloc, Some(constant), lines)?;
-    Ok(lines.push('\n')?)
+    put(lines, &[Piece::Number(number), Piece::Text(" inlined ")])?;
+    put_value(alloc, Some(constant), lines)?;
+    put(lines, &[Piece::Text("\n")])
 }
 
 /// Puts the line of a block.
-fn push_block(number: u64, block: &ToldBlock, lines: &mut String) -> Result<(), OutOfMemory> {
-    write!(lines, "{number} block {}", block.name.as_str())?;
-    push_if(block.is_first, " first", lines)?;
-    push_if(block.is_top, " top", lines)?;
-    push_if(block.is_pure, " pure", lines)?;
-    Ok(lines.push('\n')?)
+fn put_block(number: u64, block: &ToldBlock, lines: &mut String) -> Result<(), OutOfMemory> {
+    let line = [
+        Piece::Number(number),
+        Piece::Text(" block"),
+        Piece::Word(block.name.as_str()),
+        Piece::If(block.is_first, " first"),
+        Piece::If(block.is_top, " top"),
+        Piece::If(block.is_pure, " pure"),
+        Piece::Text("\n"),
+    ];
+    put(lines, &line)
 }
 
 /// Puts the line of a member.
-fn push_member(
+fn put_member(
     alloc: Global,
     number: u64,
     member: &ToldMember,
     lines: &mut String,
 ) -> Result<(), OutOfMemory> {
-    let owner = member.owner.as_str();
-    write!(lines, "{number} member {owner} {} ", member.name.as_str())?;
-    match &member.value {
-        MemberValue::Constant(value) => push_value(alloc, Some(value), lines)?,
-        MemberValue::Following(name) => write!(lines, "after {}", name.as_str())?,
-        MemberValue::Written => lines.push_str("written")?,
-    }
-    push_if(member.is_reversed, " reversed", lines)?;
-    Ok(lines.push('\n')?)
+    let front = [
+        Piece::Number(number),
+        Piece::Text(" member"),
+        Piece::Word(member.owner.as_str()),
+        Piece::Word(member.name.as_str()),
+        Piece::Text(" "),
+    ];
+    put(lines, &front)?;
+    put_member_value(alloc, &member.value, lines)?;
+    let end = [
+        Piece::If(member.is_reversed, " reversed"),
+        Piece::Text("\n"),
+    ];
+    put(lines, &end)
 }
 
-/// Puts a text where something holds.
-pub fn push_if(holds: bool, text: &str, lines: &mut String) -> Result<(), OutOfMemory> {
-    if holds {
-        lines.push_str(text)?;
+/// Puts the value of a member.
+fn put_member_value(
+    alloc: Global,
+    value: &MemberValue,
+    lines: &mut String,
+) -> Result<(), OutOfMemory> {
+    match value {
+        MemberValue::Constant(value) => put_value(alloc, Some(value), lines),
+        MemberValue::Following(name) => put(
+            lines,
+            &[Piece::Text("after"), Piece::Word(name.as_str())],
+        ),
+        MemberValue::Written => put(lines, &[Piece::Text("written")]),
     }
-    Ok(())
 }

@@ -1,6 +1,7 @@
 //! Words of trees.
 
 use crate::items;
+use crate::pieces::{Piece, put};
 use crate::told::told_nodes;
 use oxt_facts::facts::Facts;
 use oxt_facts::item::Item;
@@ -16,14 +17,14 @@ use oxt_word::word::word_of;
 use std::alloc::Global;
 use std::slice;
 
-/// The lines of the word of the tree, as that of a source.
+/// Puts the lines of the word of the tree, as that of a source.
 ///
 /// # Errors
 ///
 /// Fails only where memory runs out.
-pub fn source_lines(alloc: Global, source: &Node) -> Result<String, OutOfMemory> {
+pub fn put_source(alloc: Global, source: &Node, lines: &mut String) -> Result<(), OutOfMemory> {
     let facts = Facts::of_source(alloc)?;
-    word_lines(alloc, &facts, source)
+    put_word(alloc, facts, source, lines)
 }
 
 /// The same, where its nodes are told what they become under the options.
@@ -31,14 +32,14 @@ pub fn source_lines(alloc: Global, source: &Node) -> Result<String, OutOfMemory>
 /// # Errors
 ///
 /// Fails only where memory runs out.
-pub fn told_lines(
+pub fn put_told(
     alloc: Global,
     source: &Node,
     options: &TransformOptions,
-) -> Result<String, OutOfMemory> {
-    let told = told_nodes(alloc, source, options)?;
-    let facts = facts_with(alloc, source, told)?;
-    word_lines(alloc, &facts, source)
+    lines: &mut String,
+) -> Result<(), OutOfMemory> {
+    let facts = told_facts(alloc, source, options)?;
+    put_word(alloc, facts, source, lines)
 }
 
 /// The same, where the lines of names have their groups.
@@ -46,15 +47,25 @@ pub fn told_lines(
 /// # Errors
 ///
 /// Fails only where memory runs out.
-pub fn owned_lines(
+pub fn put_owned(
     alloc: Global,
     source: &Node,
     options: &TransformOptions,
-) -> Result<String, OutOfMemory> {
+    lines: &mut String,
+) -> Result<(), OutOfMemory> {
+    let facts = told_facts(alloc, source, options)?;
+    let items = word_by(facts, source)?;
+    put_grouped(alloc, items.as_slice(), lines)
+}
+
+/// What is known of the source, of whose nodes it is told what they become under the options.
+fn told_facts(
+    alloc: Global,
+    source: &Node,
+    options: &TransformOptions,
+) -> Result<Facts, OutOfMemory> {
     let told = told_nodes(alloc, source, options)?;
-    let facts = facts_with(alloc, source, told)?;
-    let items = word_of(&facts, source)?;
-    group_lines(alloc, items.as_slice())
+    facts_with(alloc, source, told)
 }
 
 /// What is known of the source, of whose nodes that is told, and of whose names the groups are known.
@@ -70,17 +81,24 @@ pub fn facts_with(alloc: Global, source: &Node, told: ToldNodes) -> Result<Facts
 /// The groups of the names of the tree.
 fn groups_in(alloc: Global, program: &Node) -> Result<NameGroups, OutOfMemory> {
     let scoping = resolve(alloc, program, false)?;
-    groups_of(alloc, program, &scoping)
+    let groups = groups_of(alloc, program, &scoping);
+    drop(scoping);
+    groups
 }
 
-/// The lines of the word of the output, as that of what was made of the source.
+/// Puts the lines of the word of the output, as that of what was made of the source.
 ///
 /// # Errors
 ///
 /// Fails only where memory runs out.
-pub fn output_lines(alloc: Global, source: &Node, output: &Node) -> Result<String, OutOfMemory> {
+pub fn put_output(
+    alloc: Global,
+    source: &Node,
+    output: &Node,
+    lines: &mut String,
+) -> Result<(), OutOfMemory> {
     let facts = facts_of_output(alloc, source, output)?;
-    word_lines(alloc, &facts, output)
+    put_word(alloc, facts, output, lines)
 }
 
 /// What is known of the output of the source.
@@ -90,42 +108,91 @@ pub fn output_lines(alloc: Global, source: &Node, output: &Node) -> Result<Strin
 /// Fails only where memory runs out.
 pub fn facts_of_output(alloc: Global, source: &Node, output: &Node) -> Result<Facts, OutOfMemory> {
     let names = UidNames::of_tree(alloc, source)?;
+    let facts = facts_by(alloc, &names, output);
+    drop(names);
+    facts
+}
+
+/// What is known of an output, where these names are made.
+fn facts_by(alloc: Global, names: &UidNames, output: &Node) -> Result<Facts, OutOfMemory> {
     let groups = groups_in(alloc, output)?;
-    Facts::of_output(alloc, &names, groups, output)
+    Facts::of_output(alloc, names, groups, output)
 }
 
-/// The lines of the word.
-fn word_lines(alloc: Global, facts: &Facts, program: &Node) -> Result<String, OutOfMemory> {
-    let items = word_of(facts, program)?;
-    item_lines(alloc, items.as_slice())
-}
-
-/// The lines of the items, as a text.
+/// The word of the tree of which that is known.
 ///
 /// # Errors
 ///
 /// Fails only where memory runs out.
-pub fn item_lines(alloc: Global, items: &[Item]) -> Result<String, OutOfMemory> {
+pub fn word_by(facts: Facts, program: &Node) -> Result<Vec<Item>, OutOfMemory> {
+    let items = word_of(&facts, program);
+    drop(facts);
+    items
+}
+
+/// Puts the lines of the word of the tree of which that is known.
+fn put_word(
+    alloc: Global,
+    facts: Facts,
+    program: &Node,
+    lines: &mut String,
+) -> Result<(), OutOfMemory> {
+    let items = word_by(facts, program)?;
+    put_items(alloc, items.as_slice(), lines)
+}
+
+/// Puts the lines of the items.
+///
+/// # Errors
+///
+/// Fails only where memory runs out.
+pub fn put_items(alloc: Global, items: &[Item], lines: &mut String) -> Result<(), OutOfMemory> {
     let bytes = items::lines_of(alloc, items)?;
-    match String::from_utf8(bytes) {
-        Ok(lines) => Ok(lines),
-        Err(_) => Ok(String::new(alloc)),
+    match str::from_utf8(bytes.as_slice()) {
+        Ok(text) => put(lines, &[Piece::Text(text)]),
+        Err(_) => Ok(()),
     }
 }
 
-/// The lines of the items, each with the group of its name at the end of the array, if it has one.
+/// Puts the lines of the items, each with the group of its name at the end of the array, if it has one.
 ///
 /// # Errors
 ///
 /// Fails only where memory runs out.
-pub fn group_lines(alloc: Global, items: &[Item]) -> Result<String, OutOfMemory> {
-    let mut lines = String::new(alloc);
+pub fn put_grouped(alloc: Global, items: &[Item], lines: &mut String) -> Result<(), OutOfMemory> {
     for item in items {
-        let line = item_lines(alloc, slice::from_ref(item))?;
-        match (item.group, line.as_str().strip_suffix("]\n")) {
-            (Some(group), Some(front)) => writeln!(lines, "{front},{{\"group\":{group}}}]")?,
-            _ => lines.push_str(line.as_str())?,
+        match item.group {
+            Some(group) => put_with_group(alloc, item, group, lines)?,
+            None => put_items(alloc, slice::from_ref(item), lines)?,
         }
     }
-    Ok(lines)
+    Ok(())
+}
+
+/// Puts the line of an item whose name has that group.
+fn put_with_group(
+    alloc: Global,
+    item: &Item,
+    group: u64,
+    lines: &mut String,
+) -> Result<(), OutOfMemory> {
+    let mut line = String::new(alloc);
+    put_items(alloc, slice::from_ref(item), &mut line)?;
+    put_joined(line.as_str(), group, lines)
+}
+
+/// Puts the line with that group at the end of its array.
+fn put_joined(line: &str, group: u64, lines: &mut String) -> Result<(), OutOfMemory> {
+    match line.strip_suffix("]\n") {
+        Some(front) => {
+            let joined = [
+                Piece::Text(front),
+                Piece::Text(",{\"group\":"),
+                Piece::Number(group),
+                Piece::Text("}]\n"),
+            ];
+            put(lines, &joined)
+        }
+        None => put(lines, &[Piece::Text(line)]),
+    }
 }
