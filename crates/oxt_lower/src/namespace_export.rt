@@ -21,9 +21,10 @@ use std::alloc::Global;
 use std::vec;
 
 /// Whether nothing stands for the statement of a block: it is of types alone, exports such a declaration,
-/// or is an `import =` that the plan does not keep.
+/// or is an `export as namespace`, or an `import =` that the plan does not keep.
 pub fn vanishes(node: &Node, plan: &Plan) -> bool {
     match node.kind {
+        Kind::TSNamespaceExportDeclaration => true,
         Kind::TSImportEqualsDeclaration => !plan.keeps(node.id),
         Kind::ExportDeclaration => exports_dropped(node),
         _ => node.is_type_only() || is_dropped(node),
