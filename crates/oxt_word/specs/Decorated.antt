@@ -124,9 +124,15 @@ decorated_word f d w c =
     else declared_class d.name (is_exported w) c ++ calls_behind d.has_calls w c
 
 -- A nameless expression of a class has the made name of that tag inside.
-abbrev pub titled_word : List ℕ → OneField → List Entry
-titled_word t c =
+abbrev pub titled_class : List ℕ → OneField → List Entry
+titled_class t c =
     start kind.ClassExpression [] ++ (made_bind binding.Inner false t ++ (class_parts c ++ lone item.Close))
+
+-- As a key it is computed, and has no text.
+abbrev pub titled_word : List ℕ → Way → OneField → List Entry
+titled_word t way.Keyed c = titled_class t c ++ lone item.Key
+titled_word t way.KeyText c = []
+titled_word t w c = titled_class t c
 
 -- A default export of a decorated class is that class and then the export of its name; that of another one is the class, and then
 -- what is called behind it.

@@ -6,7 +6,7 @@ ghost use Rattle.oxt_forms.specs.Details.{start};
 ghost use Rattle.oxt_tree.specs.Doc.{flag, text};
 ghost use Rattle.oxt_tree.specs.Names.{name_bytes};
 ghost use Rattle.oxt_word.specs.Calls.{used_word};
-ghost use Rattle.oxt_word.specs.Decorated.{assigned_call, calls_behind, class_bind, class_call, class_list, declared_class, decorated_class, decorated_word, default_class_word, element_calls, exported_behind, exported_name, exported_use, inner_bind, inner_made, inner_used, kept_there, made_bind, own_call, set_class, titled_word, used_bind};
+ghost use Rattle.oxt_word.specs.Decorated.{assigned_call, calls_behind, class_bind, class_call, class_list, declared_class, decorated_class, decorated_word, default_class_word, element_calls, exported_behind, exported_name, exported_use, inner_bind, inner_made, inner_used, kept_there, made_bind, own_call, set_class, titled_class, titled_word, used_bind};
 ghost use Rattle.oxt_word.specs.Enums.{use_word};
 ghost use Rattle.oxt_word.specs.Word.{each_field};
 
@@ -414,16 +414,38 @@ pub(crate) fn put_decorated(
     }
 }
 
-/// Puts a nameless expression of a class, which has the made name of that tag inside.
+/// Puts a nameless expression of a class, which has the made name of that tag inside, read that way.
 #[cycle(word)]
 pub(crate) fn put_titled(
+    facts: &Facts,
+    tag: &Name,
+    way: Way,
+    node: &Node,
+    out: &mut Vec<Item>,
+) -> Result<(), OutOfMemory>
+    ensures { OnOk result (entries out.new.items
+        ≡ entries out.old.items ++ titled_word (name_bytes tag.now) way (each_field facts.now node.now)) }
+{
+    match way {
+        Way::KeyText => Ok(()),
+        Way::Keyed => {
+            put_titled_class(facts, tag, node, out)?;
+            put_lone(facts.memory(), ItemKind::Key, out)
+        }
+        _ => put_titled_class(facts, tag, node, out),
+    }
+}
+
+/// Puts a nameless expression of a class, which has the made name of that tag inside.
+#[cycle(word)]
+fn put_titled_class(
     facts: &Facts,
     tag: &Name,
     node: &Node,
     out: &mut Vec<Item>,
 ) -> Result<(), OutOfMemory>
     ensures { OnOk result (entries out.new.items
-        ≡ entries out.old.items ++ titled_word (name_bytes tag.now) (each_field facts.now node.now)) }
+        ≡ entries out.old.items ++ titled_class (name_bytes tag.now) (each_field facts.now node.now)) }
 {
     put_start(Kind::ClassExpression, Vec::new(facts.memory()), out)?;
     put_made_bind(facts.memory(), Binding::Inner, false, tag, out)?;

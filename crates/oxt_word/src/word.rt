@@ -113,7 +113,7 @@ fn put_known(facts: &Facts, node: &Node, way: Way, out: &mut Vec<Item>) -> Resul
         Some(Told::Called(element)) => put_called(facts, element, way, node, out),
         Some(Told::Accessor(accessor)) => put_accessor(facts, accessor, way, node, out),
         Some(Told::Decorated(class)) => put_decorated(facts, class, way, node, out),
-        Some(Told::Named(tag)) => put_titled(facts, tag, node, out),
+        Some(Told::Named(tag)) => put_titled(facts, tag, way, node, out),
         Some(Told::DefaultClass(is_decorated, name)) => {
             put_default_class(facts, *is_decorated, name, node, out)
         }
