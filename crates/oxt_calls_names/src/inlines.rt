@@ -8,9 +8,11 @@ use oxt_lines::stopped::Stopped;
 use oxt_lines::table::Table;
 use oxt_metadata::symbols::NamedSymbols;
 use oxt_modules::kept::kept_nodes;
+use oxt_names::constant::ConstantValue;
 use oxt_options::options::TypeScriptOptions;
 use oxt_resolve::resolve::resolve;
 use oxt_scoping::scoping::Scoping;
+use oxt_tree::ids::NodeId;
 use oxt_tree::tree::Node;
 use std::alloc::Global;
 
@@ -23,10 +25,12 @@ struct Choice {
 
 /// What is found of an enum and a `const` enum, under each choice.
 pub fn print_inlines(alloc: Global, table: &Table, lines: &mut Lines) -> Result<(), Stopped> {
+    lines.heading(TREE)?;
     let program = table.tree(alloc, TREE)?;
     let scoping = resolve(alloc, &program.root, false)?;
-    lines.heading(TREE)?;
-    print_choices(alloc, &program.root, &scoping, lines)
+    let printed = print_choices(alloc, &program.root, &scoping, lines);
+    drop(scoping);
+    printed
 }
 
 /// The name of the tree.
@@ -58,10 +62,23 @@ fn print_choice(
     choice: Choice,
     lines: &mut Lines,
 ) -> Result<(), Stopped> {
-    let options = options_of(alloc, choice)?;
     lines.answers("enums, const enums", &[choice.enums, choice.const_enums])?;
-    print_inlined(alloc, program, scoping, &options, lines)?;
-    print_dropped(alloc, program, scoping, &options, lines)
+    let options = options_of(alloc, choice)?;
+    let printed = print_under(alloc, program, scoping, &options, lines);
+    drop(options);
+    printed
+}
+
+/// A line with what is inlined under those options, and one with what goes.
+fn print_under(
+    alloc: Global,
+    program: &Node,
+    scoping: &Scoping,
+    options: &TypeScriptOptions,
+    lines: &mut Lines,
+) -> Result<(), Stopped> {
+    print_inlined(alloc, program, scoping, options, lines)?;
+    print_dropped(alloc, program, scoping, options, lines)
 }
 
 /// The options of that choice.
@@ -81,10 +98,32 @@ fn print_inlined(
     lines: &mut Lines,
 ) -> Result<(), Stopped> {
     let named = NamedSymbols::none(alloc);
-    let kept = kept_nodes(alloc, program, scoping, &named, options, false)?;
-    let inlined = inlined_expressions(alloc, program, scoping, &kept, options)?;
+    let found = inlined_beside(alloc, program, scoping, &named, options);
+    drop(named);
+    let inlined = found?;
+    let printed = push_inlined(inlined.as_slice(), lines);
+    drop(inlined);
+    printed
+}
+
+/// The expressions that are inlined, where metadata names those symbols.
+fn inlined_beside(
+    alloc: Global,
+    program: &Node,
+    scoping: &Scoping,
+    named: &NamedSymbols,
+    options: &TypeScriptOptions,
+) -> Result<Vec<(NodeId, ConstantValue)>, Stopped> {
+    let kept = kept_nodes(alloc, program, scoping, named, options, false)?;
+    let inlined = inlined_expressions(alloc, program, scoping, &kept, options);
+    drop(kept);
+    Ok(inlined?)
+}
+
+/// A line with these expressions and their constants.
+fn push_inlined(inlined: &[(NodeId, ConstantValue)], lines: &mut Lines) -> Result<(), Stopped> {
     lines.begin("inlined")?;
-    for expression in &inlined {
+    for expression in inlined {
         lines.number_value(expression.0.0)?;
         push_constant(Some(&expression.1), lines)?;
     }
@@ -101,10 +140,30 @@ fn print_dropped(
     lines: &mut Lines,
 ) -> Result<(), Stopped> {
     let named = NamedSymbols::none(alloc);
-    let kept = kept_nodes(alloc, program, scoping, &named, options, false)?;
-    let dropped = dropped_blocks(alloc, program, scoping, &kept, &named, options, false)?;
+    let found = dropped_beside(alloc, program, scoping, &named, options);
+    drop(named);
+    let dropped = found?;
+    push_dropped(dropped.as_slice(), lines)
+}
+
+/// The blocks that go, where metadata names those symbols.
+fn dropped_beside(
+    alloc: Global,
+    program: &Node,
+    scoping: &Scoping,
+    named: &NamedSymbols,
+    options: &TypeScriptOptions,
+) -> Result<Vec<NodeId>, Stopped> {
+    let kept = kept_nodes(alloc, program, scoping, named, options, false)?;
+    let dropped = dropped_blocks(alloc, program, scoping, &kept, named, options, false);
+    drop(kept);
+    Ok(dropped?)
+}
+
+/// A line with these blocks.
+fn push_dropped(dropped: &[NodeId], lines: &mut Lines) -> Result<(), Stopped> {
     lines.begin("dropped")?;
-    for block in &dropped {
+    for block in dropped {
         lines.number_value(block.0)?;
     }
     lines.end()?;

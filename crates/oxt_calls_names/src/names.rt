@@ -49,10 +49,17 @@ fn print_next(names: &mut UidNames, text: &str, lines: &mut Lines) -> Result<(),
 
 fn beside_two(alloc: Global, lines: &mut Lines) -> Result<(), Stopped> {
     let mut names = UidNames::new(alloc);
-    take_all(&mut names, &["_x", "x2"])?;
+    let printed = print_beside_two(&mut names, lines);
+    drop(names);
+    printed
+}
+
+/// Lines with the names that are made beside two that are taken, and whether two are then taken.
+fn print_beside_two(names: &mut UidNames, lines: &mut Lines) -> Result<(), Stopped> {
+    take_all(names, &["_x", "x2"])?;
     let texts = ["x", "x", "__y7", "12"];
     print_made(
-        &mut names,
+        names,
         &texts,
         "beside _x and x2, made of x, x, __y7, 12",
         lines,
@@ -62,13 +69,20 @@ fn beside_two(alloc: Global, lines: &mut Lines) -> Result<(), Stopped> {
 
 fn beside_seven(alloc: Global, lines: &mut Lines) -> Result<(), Stopped> {
     let mut names = UidNames::new(alloc);
-    take_all(&mut names, &["_x", "x2", "_a", "_a2", "_a4", "_", "_b9"])?;
+    let printed = print_beside_seven(&mut names, lines);
+    drop(names);
+    printed
+}
+
+/// A line with the names that are made beside seven that are taken.
+fn print_beside_seven(names: &mut UidNames, lines: &mut Lines) -> Result<(), Stopped> {
+    take_all(names, &["_x", "x2", "_a", "_a2", "_a4", "_", "_b9"])?;
     let texts = [
         "x", "x", "__y7", "12", "a", "a", "_a3", "A", "b", "b9", "c1d2", "c1d", "é3", "", "_", "a",
     ];
     let label =
         "beside _x x2 _a _a2 _a4 _ _b9, made of x x __y7 12 a a _a3 A b b9 c1d2 c1d é3, an empty text, _ a";
-    print_made(&mut names, &texts, label, lines)
+    print_made(names, &texts, label, lines)
 }
 
 fn beside_a_tree(alloc: Global, table: &Table, lines: &mut Lines) -> Result<(), Stopped> {
@@ -81,5 +95,7 @@ fn beside_the_names_of(alloc: Global, root: &Node, lines: &mut Lines) -> Result<
     let texts = ["a", "b", "c", "d", "e", "f", "g"];
     let label =
         "beside a binding _a, a use _b, a key _c, a string _d, members _e, _f, _g, made of a to g";
-    print_made(&mut names, &texts, label, lines)
+    let printed = print_made(&mut names, &texts, label, lines);
+    drop(names);
+    printed
 }

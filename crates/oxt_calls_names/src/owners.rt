@@ -37,9 +37,16 @@ fn of_imports(alloc: Global, table: &Table, lines: &mut Lines) -> Result<(), Sto
 /// Groups that are put one by one, the second in place of the first.
 fn by_hand(alloc: Global, lines: &mut Lines) -> Result<(), Stopped> {
     let mut groups = NameGroups::new(alloc);
+    let printed = put_twice(&mut groups, lines);
+    drop(groups);
+    printed
+}
+
+/// Puts two groups of one node, and prints a line with what is there then.
+fn put_twice(groups: &mut NameGroups, lines: &mut Lines) -> Result<(), Stopped> {
     groups.put(NodeId(4), 7)?;
     groups.put(NodeId(4), 2)?;
-    push_groups(&groups, "4 is put to 7, then to 2", &[4, 7], lines)
+    push_groups(groups, "4 is put to 7, then to 2", &[4, 7], lines)
 }
 
 /// A line with the groups of these nodes of a tree.
@@ -51,14 +58,18 @@ fn print_groups(
     lines: &mut Lines,
 ) -> Result<(), Stopped> {
     let groups = groups_in(alloc, table, tree)?;
-    push_groups(&groups, tree, nodes, lines)
+    let printed = push_groups(&groups, tree, nodes, lines);
+    drop(groups);
+    printed
 }
 
 /// The groups of the names of a tree.
 fn groups_in(alloc: Global, table: &Table, tree: &str) -> Result<NameGroups, Stopped> {
     let program = table.tree(alloc, tree)?;
     let scoping = resolve(alloc, &program.root, false)?;
-    Ok(groups_of(alloc, &program.root, &scoping)?)
+    let groups = groups_of(alloc, &program.root, &scoping);
+    drop(scoping);
+    Ok(groups?)
 }
 
 /// A line with the groups of these nodes.

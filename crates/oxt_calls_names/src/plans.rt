@@ -43,7 +43,7 @@ impl Question {
 /// The answers of an empty plan, of one with four lists, and of one with constants.
 pub fn print_plans(alloc: Global, lines: &mut Lines) -> Result<(), Stopped> {
     lines.heading("an empty plan, of the nodes 0 to 8")?;
-    print_answers(&Plan::empty(alloc), lines)?;
+    no_lists(alloc, lines)?;
     lines.heading("the nodes 3, 1, 3 kept, 2 first, 5 dropped, 7 never written")?;
     four_lists(alloc, lines)?;
     constants(alloc, lines)
@@ -69,11 +69,31 @@ fn print_nodes(plan: &Plan, question: Question, lines: &mut Lines) -> Result<(),
     Ok(())
 }
 
+fn no_lists(alloc: Global, lines: &mut Lines) -> Result<(), Stopped> {
+    let plan = Plan::empty(alloc);
+    let printed = print_answers(&plan, lines);
+    drop(plan);
+    printed
+}
+
 fn four_lists(alloc: Global, lines: &mut Lines) -> Result<(), Stopped> {
     let mut lists = PlanLists::empty(alloc);
-    fill(&mut lists)?;
-    let plan = Plan::new(alloc, lists)?;
-    print_answers(&plan, lines)
+    let filled = fill(&mut lists);
+    let plan = plan_of(alloc, lists, filled)?;
+    let printed = print_answers(&plan, lines);
+    drop(plan);
+    printed
+}
+
+/// The plan with these lists, if they were filled.
+fn plan_of(alloc: Global, lists: PlanLists, filled: Result<(), Stopped>) -> Result<Plan, Stopped> {
+    match filled {
+        Ok(()) => Ok(Plan::new(alloc, lists)?),
+        Err(stopped) => {
+            drop(lists);
+            Err(stopped)
+        }
+    }
 }
 
 /// A node of its own for each list; two nodes are kept.
@@ -89,9 +109,11 @@ fn fill(lists: &mut PlanLists) -> Result<(), Stopped> {
 
 fn constants(alloc: Global, lines: &mut Lines) -> Result<(), Stopped> {
     let mut lists = PlanLists::empty(alloc);
-    inline(alloc, &mut lists)?;
-    let plan = Plan::new(alloc, lists)?;
-    print_inlined(&plan, lines)
+    let filled = inline(alloc, &mut lists);
+    let plan = plan_of(alloc, lists, filled)?;
+    let printed = print_inlined(&plan, lines);
+    drop(plan);
+    printed
 }
 
 /// A line with the constants of three nodes.

@@ -38,7 +38,9 @@ fn resolved(alloc: Global, table: &Table, lines: &mut Lines) -> Result<(), Stopp
 
 fn of_tree(alloc: Global, root: &Node, lines: &mut Lines) -> Result<(), Stopped> {
     let mut scoping = resolve(alloc, root, false)?;
-    in_scopes(alloc, &mut scoping, lines)
+    let printed = in_scopes(alloc, &mut scoping, lines);
+    drop(scoping);
+    printed
 }
 
 /// The scopes of the tree, and a further one.
@@ -99,7 +101,9 @@ fn print_bindings(scoping: &Scoping, scope: ScopeId, lines: &mut Lines) -> Resul
 
 fn by_hand(alloc: Global, lines: &mut Lines) -> Result<(), Stopped> {
     let mut scoping = Scoping::new(alloc, ScopeFlags::Top, UidNames::new(alloc))?;
-    changed(alloc, &mut scoping, lines)
+    let printed = changed(alloc, &mut scoping, lines);
+    drop(scoping);
+    printed
 }
 
 fn changed(alloc: Global, scoping: &mut Scoping, lines: &mut Lines) -> Result<(), Stopped> {
@@ -243,7 +247,9 @@ fn print_enum(scoping: &Scoping, symbol: SymbolId, lines: &mut Lines) -> Result<
 fn without_types(alloc: Global, lines: &mut Lines) -> Result<(), Stopped> {
     let names = UidNames::new(alloc);
     let mut scoping = Scoping::of_program(alloc, ScopeFlags::Top, NodeId(1), names)?;
-    types_deleted(alloc, &mut scoping, lines)
+    let printed = types_deleted(alloc, &mut scoping, lines);
+    drop(scoping);
+    printed
 }
 
 fn types_deleted(alloc: Global, scoping: &mut Scoping, lines: &mut Lines) -> Result<(), Stopped> {

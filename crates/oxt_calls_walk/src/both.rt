@@ -2,7 +2,7 @@
 ghost use Rattle.std.specs.Prelude.{◌<◌, length};
 ghost use Rattle.oxt_stores.specs.Frame.{frames};
 
-use crate::context::{Calls, drop_context, of_table, print_calls};
+use crate::context::{Calls, of_table, print_calls};
 use oxt_ctx::context::TraverseCtx;
 use oxt_grammar::kind::Kind;
 use oxt_lines::lines::Lines;
@@ -120,7 +120,7 @@ fn is_seen_by(
 ) -> Result<bool, Stopped> {
     let mut ctx = of_table(alloc, table);
     let is_seen = walk_both(program, end, hook, &mut ctx);
-    drop_context(ctx);
+    drop(ctx);
     is_seen
 }
 

@@ -105,9 +105,6 @@ pub fn print_calls(alloc: Global, calls: Calls<'_>, lines: &mut Lines) -> Result
     print_calls_by(alloc, table, calls, lines)
 }
 
-/// Drops the context.
-pub fn drop_context(_ctx: TraverseCtx) {}
-
 fn print_calls_by(
     alloc: Global,
     table: Scoping,
@@ -116,7 +113,7 @@ fn print_calls_by(
 ) -> Result<(), Stopped> {
     let mut ctx = of_table(alloc, table);
     let outcome = print_calls_in(alloc, calls, &mut ctx, lines);
-    drop_context(ctx);
+    drop(ctx);
     outcome
 }
 

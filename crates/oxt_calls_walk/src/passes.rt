@@ -1,6 +1,6 @@
 //! The walk of a small tree by the pass that does nothing.
 
-use crate::context::{drop_context, of_table};
+use crate::context::of_table;
 use oxt_ctx::context::TraverseCtx;
 use oxt_lines::lines::Lines;
 use oxt_lines::source::outline_of;
@@ -35,7 +35,7 @@ fn walked(alloc: Global, program: &mut Program, lines: &mut Lines) -> Result<(),
 fn walk_by(alloc: Global, table: Scoping, program: &mut Program) -> Result<(), Stopped> {
     let mut ctx = of_table(alloc, table);
     let outcome = walk(program, &mut ctx);
-    drop_context(ctx);
+    drop(ctx);
     outcome
 }
 

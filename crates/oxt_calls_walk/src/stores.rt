@@ -1,6 +1,6 @@
 //! The stack of entries that may be empty, the statements that wait beside others, and the declarators that
 //! wait for the top of a list.
-ghost use Rattle.std.specs.Prelude.{◌≡◌, ◌<◌, length};
+ghost use Rattle.std.specs.Prelude.{◌≡◌, ◌<◌, [], length};
 ghost use Rattle.oxt_stores.specs.Frame.{frames};
 
 use oxt_grammar::kind::Kind;
@@ -37,6 +37,13 @@ pub fn print_stores(alloc: Global, lines: &mut Lines) -> Result<(), Stopped> {
 
 fn sparse_stack(alloc: Global, lines: &mut Lines) -> Result<(), Stopped> {
     let mut stack: SparseStack<u64> = SparseStack::new(alloc);
+    let printed = push_and_pop(&mut stack, lines);
+    drop(stack);
+    printed
+}
+
+/// A line with what two entries of an empty stack are, and how many there are before and after.
+fn push_and_pop(stack: &mut SparseStack<u64>, lines: &mut Lines) -> Result<(), Stopped> {
     stack.push(None)?;
     stack.push(Some(1))?;
     let length = stack.len() as u64;
@@ -50,11 +57,18 @@ fn sparse_stack(alloc: Global, lines: &mut Lines) -> Result<(), Stopped> {
 
 fn lent_top(alloc: Global, lines: &mut Lines) -> Result<(), Stopped> {
     let mut stack: SparseStack<u64> = SparseStack::new(alloc);
-    let of_none = write_top(&mut stack, 1);
+    let printed = write_tops(&mut stack, lines);
+    drop(stack);
+    printed
+}
+
+/// A line with what was on top of the stack, each time that 1 was written there.
+fn write_tops(stack: &mut SparseStack<u64>, lines: &mut Lines) -> Result<(), Stopped> {
+    let of_none = write_top(stack, 1);
     stack.push(None)?;
-    let of_empty = write_top(&mut stack, 1);
+    let of_empty = write_top(stack, 1);
     stack.push(Some(7))?;
-    let of_seven = write_top(&mut stack, 1);
+    let of_seven = write_top(stack, 1);
     let popped = stack.pop();
     lines.options(
         "last_mut of no entry, of an empty entry, of 7, over which 1 is written, pop",
@@ -75,6 +89,51 @@ fn write_top(stack: &mut SparseStack<u64>, number: u64) -> Option<u64> {
 }
 
 // ---- statements beside others
+
+/// What is inserted into a store of its own.
+#[derive(Clone, Copy)]
+enum Inserted {
+    /// Five insertions beside one statement.
+    Five,
+    /// Six statements beside four others.
+    Six,
+    /// No statements beside one.
+    Nothing,
+    /// Statements that were moved once.
+    MovedOnce,
+    /// Statements that were moved twice.
+    MovedTwice,
+}
+
+impl Inserted {
+    /// Puts it into the store.
+    fn insert(self, alloc: Global, store: &mut StatementInjectorStore) -> Result<(), Stopped> {
+        match self {
+            Inserted::Five => insert_five(alloc, store),
+            Inserted::Six => insert_six(alloc, store),
+            Inserted::Nothing => insert_none(alloc, store),
+            Inserted::MovedOnce => move_behind(alloc, store),
+            Inserted::MovedTwice => move_twice(alloc, store),
+        }
+    }
+}
+
+/// A line with what the list of those letters becomes by what is inserted, and whether its store is then empty.
+fn print_placed(
+    alloc: Global,
+    inserted: Inserted,
+    letters: &[u8],
+    label: &str,
+    lines: &mut Lines,
+) -> Result<(), Stopped> {
+    let mut store = StatementInjectorStore::new(alloc);
+    let printed = match inserted.insert(alloc, &mut store) {
+        Ok(()) => placed(alloc, &mut store, letters, label, lines),
+        Err(stopped) => Err(stopped),
+    };
+    drop(store);
+    printed
+}
 
 /// The number of the statement of that letter.
 fn at(letter: u8) -> NodeId {
@@ -116,27 +175,31 @@ fn insert_five(alloc: Global, store: &mut StatementInjectorStore) -> Result<(), 
 
 fn five_beside_one(alloc: Global, lines: &mut Lines) -> Result<(), Stopped> {
     let mut store = StatementInjectorStore::new(alloc);
+    let printed = place_five(alloc, &mut store, lines);
+    drop(store);
+    printed
+}
+
+/// Lines that say whether the store is empty before and after five insertions, and what a list becomes by them.
+fn place_five(
+    alloc: Global,
+    store: &mut StatementInjectorStore,
+    lines: &mut Lines,
+) -> Result<(), Stopped> {
     let before = store.is_empty();
-    insert_five(alloc, &mut store)?;
+    insert_five(alloc, store)?;
     lines.answers(
         "is_empty of a new store, of one with five insertions",
         &[before, store.is_empty()],
     )?;
     let label =
         "insert_before a, insert_after b, insert_before c, insert_many_before d e, insert_many_after f, the list s";
-    placed(alloc, &mut store, b"s", label, lines)
+    placed(alloc, store, b"s", label, lines)
 }
 
 fn five_beside_the_first(alloc: Global, lines: &mut Lines) -> Result<(), Stopped> {
-    let mut store = StatementInjectorStore::new(alloc);
-    insert_five(alloc, &mut store)?;
-    placed(
-        alloc,
-        &mut store,
-        b"rsts",
-        "the same, the list r s t s",
-        lines,
-    )
+    let label = "the same, the list r s t s";
+    print_placed(alloc, Inserted::Five, b"rsts", label, lines)
 }
 
 /// One and two statements, before and after others.
@@ -149,22 +212,19 @@ fn insert_six(alloc: Global, store: &mut StatementInjectorStore) -> Result<(), S
 }
 
 fn each_comes_first(alloc: Global, lines: &mut Lines) -> Result<(), Stopped> {
-    let mut store = StatementInjectorStore::new(alloc);
-    insert_six(alloc, &mut store)?;
     let label = "a after s, b c before t, d e after u, f after v, the list u t s";
-    placed(alloc, &mut store, b"uts", label, lines)
+    print_placed(alloc, Inserted::Six, b"uts", label, lines)
+}
+
+/// No statements, before one.
+fn insert_none(alloc: Global, store: &mut StatementInjectorStore) -> Result<(), Stopped> {
+    store.insert_many_before(at(b's'), Vec::new(alloc))?;
+    Ok(())
 }
 
 fn empty_list(alloc: Global, lines: &mut Lines) -> Result<(), Stopped> {
-    let mut store = StatementInjectorStore::new(alloc);
-    store.insert_many_before(at(b's'), Vec::new(alloc))?;
-    placed(
-        alloc,
-        &mut store,
-        b"s",
-        "no statements before s, the list s",
-        lines,
-    )
+    let label = "no statements before s, the list s";
+    print_placed(alloc, Inserted::Nothing, b"s", label, lines)
 }
 
 /// What waits beside two statements is moved beside one, which then moves nowhere.
@@ -178,15 +238,8 @@ fn move_behind(alloc: Global, store: &mut StatementInjectorStore) -> Result<(), 
 }
 
 fn moved_behind(alloc: Global, lines: &mut Lines) -> Result<(), Stopped> {
-    let mut store = StatementInjectorStore::new(alloc);
-    move_behind(alloc, &mut store)?;
-    placed(
-        alloc,
-        &mut store,
-        b"t",
-        "x after t, y before s, move_insertions from s to t, the list t",
-        lines,
-    )
+    let label = "x after t, y before s, move_insertions from s to t, the list t";
+    print_placed(alloc, Inserted::MovedOnce, b"t", label, lines)
 }
 
 /// What waits beside two statements is moved on twice.
@@ -200,11 +253,9 @@ fn move_twice(alloc: Global, store: &mut StatementInjectorStore) -> Result<(), S
 }
 
 fn moved_twice(alloc: Global, lines: &mut Lines) -> Result<(), Stopped> {
-    let mut store = StatementInjectorStore::new(alloc);
-    move_twice(alloc, &mut store)?;
     let label =
         "c before s, d after s, e before t, move_insertions from s to t, from t to r, the list r";
-    placed(alloc, &mut store, b"r", label, lines)
+    print_placed(alloc, Inserted::MovedTwice, b"r", label, lines)
 }
 
 // ---- declarators at the top of a list
@@ -307,26 +358,65 @@ fn topped(
 }
 
 fn declarators_at_top(alloc: Global, lines: &mut Lines) -> Result<(), Stopped> {
-    let mut ids = NodeIds { next: 100 };
     let mut store = VarDeclarationsStore::new(alloc);
+    let printed = top_seven(alloc, &mut store, lines);
+    drop(store);
+    printed
+}
+
+/// Lines with what a list becomes by seven declarators.
+fn top_seven(
+    alloc: Global,
+    store: &mut VarDeclarationsStore,
+    lines: &mut Lines,
+) -> Result<(), Stopped>
+    requires { frames store.old ≡ [] }
+{
+    let mut ids = NodeIds { next: 100 };
     store.record_entering_statements()?;
-    declare_seven(alloc, &mut store, &mut ids)?;
-    topped(alloc, &mut store, false, &mut ids, lines)
+    declare_seven(alloc, store, &mut ids)?;
+    topped(alloc, store, false, &mut ids, lines)
 }
 
 fn no_declarators(alloc: Global, lines: &mut Lines) -> Result<(), Stopped> {
-    let mut ids = NodeIds { next: 100 };
     let mut store = VarDeclarationsStore::new(alloc);
+    let printed = top_none(alloc, &mut store, lines);
+    drop(store);
+    printed
+}
+
+/// Lines with what a list becomes by no declarators.
+fn top_none(
+    alloc: Global,
+    store: &mut VarDeclarationsStore,
+    lines: &mut Lines,
+) -> Result<(), Stopped>
+    requires { frames store.old ≡ [] }
+{
+    let mut ids = NodeIds { next: 100 };
     store.record_entering_statements()?;
-    topped(alloc, &mut store, false, &mut ids, lines)
+    topped(alloc, store, false, &mut ids, lines)
 }
 
 fn declarators_of_program(alloc: Global, lines: &mut Lines) -> Result<(), Stopped> {
-    let mut ids = NodeIds { next: 100 };
     let mut store = VarDeclarationsStore::new(alloc);
+    let printed = keep_seven(alloc, &mut store, lines);
+    drop(store);
+    printed
+}
+
+/// Lines with what the body of a program becomes by seven declarators, and their statements.
+fn keep_seven(
+    alloc: Global,
+    store: &mut VarDeclarationsStore,
+    lines: &mut Lines,
+) -> Result<(), Stopped>
+    requires { frames store.old ≡ [] }
+{
+    let mut ids = NodeIds { next: 100 };
     store.record_entering_statements()?;
-    declare_seven(alloc, &mut store, &mut ids)?;
-    waiting(alloc, &mut store, &mut ids, lines)
+    declare_seven(alloc, store, &mut ids)?;
+    waiting(alloc, store, &mut ids, lines)
 }
 
 /// The list of the program's body stays, and both statements are had from the store.

@@ -14,7 +14,7 @@ use oxt_options::plan::Plan;
 use oxt_options::state::TransformState;
 use oxt_resolve::resolve::resolve;
 use oxt_tree::ids::OutOfMemory;
-use oxt_tree::tree::Program;
+use oxt_tree::tree::{Node, Program};
 use oxt_walk::walk::walk_program;
 use std::alloc::Global;
 
@@ -39,11 +39,35 @@ fn main(rt: HostRuntime) -> Result<()> {
 
 // The lines of the hooks that a walk of the program runs.
 fn lines_of(alloc: Global, mut program: Program) -> Result<String, OutOfMemory> {
+    let mut ctx = context_of(alloc, &program)?;
+    let lines = lines_in(alloc, &mut program.root, &mut ctx);
+    drop(ctx);
+    lines
+}
+
+// The context of a walk of the program, of which only the names are known.
+fn context_of(alloc: Global, program: &Program) -> Result<TraverseCtx, OutOfMemory> {
+    let state = default_state(alloc)?;
     let scoping = resolve(alloc, &program.root, false)?;
+    Ok(TraverseCtx::new(alloc, scoping, Plan::empty(alloc), state, program.ids))
+}
+
+// What is known of a run without flags.
+fn default_state(alloc: Global) -> Result<TransformState, OutOfMemory> {
     let options = TransformOptions::defaults(alloc)?;
     let state = TransformState::new(&options, false);
-    let mut ctx = TraverseCtx::new(alloc, scoping, Plan::empty(alloc), state, program.ids);
+    drop(options);
+    Ok(state)
+}
+
+// The lines of the hooks that a walk in that context runs.
+fn lines_in(alloc: Global, root: &mut Node, ctx: &mut TraverseCtx) -> Result<String, OutOfMemory> {
     let mut recorder = Recorder::new(alloc);
-    walk_program(&mut recorder, &mut program.root, &mut ctx)?;
-    Ok(recorder.lines)
+    match walk_program(&mut recorder, root, ctx) {
+        Ok(()) => Ok(recorder.lines),
+        Err(error) => {
+            drop(recorder);
+            Err(error)
+        }
+    }
 }
