@@ -1,4 +1,8 @@
+mod Rest
 mod Members
+mod Found
 mod Loops
+mod Numbers
+mod Ranges
 mod Spelled
 mod WordsFound

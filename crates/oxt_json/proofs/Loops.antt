@@ -1,9 +1,10 @@
 -- What was read so far, in front of the reading of what is left.
-use Rattle.std.proofs.Common.{◌≡◌, ℕ, ◌+◌, ◌<◌, ◌≤◌, List, [], ◌∷◌, ◌++◌, length, map, drop, get_or, Option, Ok, Err, append_assoc, append-nil, add-one, drop-cons, refl, sym, ap, ◌∙◌}
+use Rattle.std.proofs.Common.{◌≡◌, ℕ, ◌+◌, ◌<◌, ◌≤◌, List, [], ◌∷◌, ◌++◌, length, map, drop, get_or, Option, Ok, Err, append_assoc, append-nil, refl, sym, ap, ◌∙◌}
 use Rattle.std.proofs.lemmas.List.{map-append, drop_all}
 use Rattle.std.specs.Fmt.{decimal}
-use Rattle.serde_json.specs.View.{view, items_view}
-use Rattle.serde_json.specs.declared.value.Value.{Value}
+use Rattle.json.specs.Value.{value_view, items_view}
+use Rattle.json.specs.declared.value.Value as json
+use Rattle.std.specs.declared.alloc.Global.{Global}
 use Rattle.oxt_grammar.specs.Keys.{key_of}
 use Rattle.oxt_grammar.specs.Field.{row_view}
 use Rattle.oxt_grammar.specs.declared.context.Setting.{Setting}
@@ -12,6 +13,8 @@ use Rattle.oxt_grammar.specs.declared.holds.Row.{Row}
 use Rattle.oxt_tree.specs.Doc.{Doc}
 use Rattle.oxt_tree.specs.View.{part_doc}
 use Rattle.oxt_tree.specs.declared.tree.Part.{Part}
+use Rattle.oxt_json.proofs.Rest.{drop_at}
+use Rattle.oxt_json.specs.Data.{data_of, items_data}
 use Rattle.oxt_json.specs.Answer.{Answer, below, and_then, mapped}
 use Rattle.oxt_json.specs.Reading.{Reader, read_as, each_as, field_as, fields_as}
 use Rattle.oxt_json.specs.Misreads.{IsCause}
@@ -37,28 +40,28 @@ pub one_wrong : {A : Type 0} (done : List A) (first : Answer A) (rest : A → �
 one_wrong done first rest OutOfMemory h = tt
 one_wrong done first rest (At place) h = rw h
 
-drop_at : {A : Type 0} (xs : List A) (i : ℕ) (x : A) → i < length xs → x ≡ get_or xs i x → drop i xs ≡ x ∷ drop (i + 1) xs
-drop_at xs i x h is = rw (add-one, drop-cons xs i x, ← is)
+abbrev Value : Type 0
+Value = json.Value Global
 
 -- an element was read
 pub items_more : (vs : List Value) (i : ℕ) (v : Value) (parts : List Part) (p : Part) (s : Setting) (h : Holds) (n m : ℕ) (whole : Answer (List Doc))
-    → i < length vs → v ≡ get_or vs i v → below (decimal i) (read_as (view v) s h n) ≡ Ok (part_doc p, m)
-    → whole ≡ after (map part_doc parts) (each_as (items_view (drop i vs)) s i h n)
-    → whole ≡ after (map part_doc (parts ++ p ∷ [])) (each_as (items_view (drop (i + 1) vs)) s (i + 1) h m)
+    → i < length vs → v ≡ get_or vs i v → below (decimal i) (read_as (data_of (value_view v)) s h n) ≡ Ok (part_doc p, m)
+    → whole ≡ after (map part_doc parts) (each_as (items_data (items_view (drop i vs))) s i h n)
+    → whole ≡ after (map part_doc (parts ++ p ∷ [])) (each_as (items_data (items_view (drop (i + 1) vs))) s (i + 1) h m)
 items_more vs i v parts p s h n m whole lt is first so_far =
-    so_far ∙ rw (drop_at vs i v lt is, map-append part_doc parts (p ∷ [])) (one_more (map part_doc parts) _ (part_doc p) m (λ k. each_as (items_view (drop (i + 1) vs)) s (i + 1) h k) first)
+    so_far ∙ rw (drop_at vs i v lt is, map-append part_doc parts (p ∷ [])) (one_more (map part_doc parts) _ (part_doc p) m (λ k. each_as (items_data (items_view (drop (i + 1) vs))) s (i + 1) h k) first)
 
 -- an element is wrong
 pub items_wrong : (vs : List Value) (i : ℕ) (v : Value) (done : List Doc) (s : Setting) (h : Holds) (n : ℕ) (e : Misread) (whole : Answer (List Doc))
-    → i < length vs → v ≡ get_or vs i v → IsCause (below (decimal i) (read_as (view v) s h n)) e
-    → whole ≡ after done (each_as (items_view (drop i vs)) s i h n)
+    → i < length vs → v ≡ get_or vs i v → IsCause (below (decimal i) (read_as (data_of (value_view v)) s h n)) e
+    → whole ≡ after done (each_as (items_data (items_view (drop i vs))) s i h n)
     → IsCause whole e
 items_wrong vs i v done s h n e whole lt is first so_far =
     rw (so_far, drop_at vs i v lt is) (one_wrong done _ _ e first)
 
 -- no element is left
 pub items_done : (vs : List Value) (i : ℕ) (done : List Doc) (s : Setting) (h : Holds) (n : ℕ) (whole : Answer (List Doc))
-    → length vs ≤ i → whole ≡ after done (each_as (items_view (drop i vs)) s i h n) → whole ≡ Ok (done, n)
+    → length vs ≤ i → whole ≡ after done (each_as (items_data (items_view (drop i vs))) s i h n) → whole ≡ Ok (done, n)
 items_done vs i done s h n whole all so_far = so_far ∙ rw (drop_all i vs all, append-nil) refl
 
 -- a field was read

@@ -1,4 +1,5 @@
 pub mod Answer
+pub mod Data
 pub mod Faults
 pub mod Heads
 pub mod Leaves

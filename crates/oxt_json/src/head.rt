@@ -1,18 +1,20 @@
 //! What a node has before its fields.
 ghost use Rattle.std.specs.Prelude.{◌≡◌, IfOk, IfErr, IfSome, option_map, Ok};
-ghost use Rattle.std.specs.BTreeMap.{values};
 ghost use Rattle.std.specs.List.{IsAmong};
+ghost use Rattle.std.specs.Str.{bytes_eq};
+ghost use Rattle.json.specs.Value.{value_view, members_view};
 ghost use Rattle.serde_json.specs.Find.{get_member};
-ghost use Rattle.serde_json.specs.View.{view, members_view};
+ghost use Rattle.oxt_json.specs.Data.{data_of, members_data};
 ghost use Rattle.oxt_json.specs.Leaves.{kind_at, offset_at};
 ghost use Rattle.oxt_json.specs.Misreads.{IsCause};
 ghost use Rattle.oxt_json.specs.Reading.{head_as};
 
 use crate::misread::Misread;
+use crate::number::whole;
+use json::Value;
 use oxt_grammar::category::Category;
 use oxt_grammar::kind::Kind;
 use oxt_tree::ids::Span;
-use serde_json::{Map, Value};
 use std::alloc::Global;
 
 /// What a node is and where it stands in the source text.
@@ -29,15 +31,15 @@ impl Head {
     ///
     /// # Errors
     /// The first of `type`, `start` and `end` that is wrong.
-    pub fn read(
+    pub fn read<'a>(
         alloc: Global,
-        members: &Map<String, Value>,
+        members: &[(&'a str, Value<'a>)],
         category: Category,
     ) -> Result<Head, Misread>
-        ensures read { IfOk result (λ head. head_as category (members_view members.now.entries)
+        ensures read { IfOk result (λ head. head_as category (members_data (members_view members.now))
             ≡ Ok (head_view head)) }
         ensures wrong { IfErr result
-            (IsCause (head_as category (members_view members.now.entries))) }
+            (IsCause (head_as category (members_data (members_view members.now)))) }
     {
         let Some(kind) = kind_in(member(members, "type"), category) else {
             return Err(Misread::at(alloc, "type"));
@@ -55,26 +57,51 @@ impl Head {
     }
 }
 
-/// The value at a key of an object.
-pub fn member<'a>(members: &'a Map<String, Value>, key: &str) -> Option<&'a Value>
-    ensures value { option_map (λ v. view v.now) result
-        ≡ get_member key.now (members_view members.now.entries) }
-    ensures among { IfSome result (λ v. IsAmong (values members.now) v.now) }
+/// The last member of an object that has the key.
+#[tactic(auto, using(crate::proofs::Found::member_nowhere))]
+pub fn member<'v, 'a>(
+    members: &'v [(&'a str, Value<'a>)],
+    key: &str,
+) -> Option<&'v (&'a str, Value<'a>)>
+    ensures value { option_map (λ m. data_of (value_view m.now.1)) result
+        ≡ get_member key.now (members_data (members_view members.now)) }
+    ensures among { IfSome result (λ m. IsAmong members.now m.now) }
 {
-    members.get(key)
+    let mut left = members.len();
+    while left > 0 {
+        left -= 1;
+        let member = &members[left];
+        if is_key(member.0, key) {
+            return Some(member);
+        }
+    }
+    None
 }
 
-fn kind_in(value: Option<&Value>, category: Category) -> Option<Kind>
-    ensures { result ≡ kind_at category (option_map (λ v. view v.now) value.entry) }
+// Most keys differ in length, which is quicker to see than the bytes.
+#[tactic(auto, using(crate::proofs::Found::other_length))]
+fn is_key(name: &str, key: &str) -> bool
+    ensures { result ≡ bytes_eq name.now key.now }
 {
-    category.find(value?.as_str()?)
+    if name.len() != key.len() {
+        return false;
+    }
+    name == key
 }
 
-fn offset_in(value: Option<&Value>) -> Option<u32>
-    ensures { result ≡ offset_at (option_map (λ v. view v.now) value.entry) }
+#[tactic(auto, using(crate::proofs::Found::text_in))]
+fn kind_in<'a>(member: Option<&(&'a str, Value<'a>)>, category: Category) -> Option<Kind>
+    ensures { result ≡ kind_at category (option_map (λ m. data_of (value_view m.now.1)) member.entry) }
 {
-    let Some(value) = value else {
+    category.find(member?.1.as_str()?)
+}
+
+#[tactic(auto, using(crate::proofs::Found::number_in))]
+fn offset_in<'a>(member: Option<&(&'a str, Value<'a>)>) -> Option<u32>
+    ensures { result ≡ offset_at (option_map (λ m. data_of (value_view m.now.1)) member.entry) }
+{
+    let Some(member) = member else {
         return Some(0);
     };
-    u32::try_from(value.as_u64()?).ok()
+    u32::try_from(whole(member.1.as_number()?)?).ok()
 }

@@ -1,20 +1,20 @@
 //! Values without nodes in them.
 ghost use Rattle.std.specs.Prelude.{◌≡◌, IfOk, option_map, if◌then◌else◌, Some, None};
-ghost use Rattle.serde_json.specs.View.{number_view};
 ghost use Rattle.oxt_grammar.specs.Field.{row_view};
 ghost use Rattle.oxt_grammar.specs.Places.{words_of};
 ghost use Rattle.oxt_tree.specs.Doc as doc;
 ghost use Rattle.oxt_valid.specs.Valid.{is_among};
 ghost use Rattle.oxt_tree.specs.View.{part_doc};
+ghost use Rattle.oxt_json.specs.Data.{num};
 ghost use Rattle.oxt_json.specs.Leaves.{null_doc, flag_doc, number_doc, text_doc};
 ghost use Rattle.oxt_json.specs.Reading.{missing_doc};
 
+use crate::number::whole;
 use oxt_grammar::holds::{Holds, Presence, Row};
 use oxt_tree::fields::default_part;
 use oxt_tree::ids::OutOfMemory;
 use oxt_tree::name::Name;
 use oxt_tree::tree::Part;
-use serde_json::Number;
 use std::alloc::Global;
 
 /// What null stands for.
@@ -40,12 +40,13 @@ pub fn flag_part(flag: bool, holds: Holds) -> Option<Part>
 }
 
 /// What a number stands for.
-pub fn number_part(number: &Number, holds: Holds) -> Option<Part>
-    ensures { option_map part_doc result ≡ number_doc holds (number_view number.now) }
+#[tactic(auto, using(crate::proofs::Found::whole_in))]
+pub fn number_part(number: &str, holds: Holds) -> Option<Part>
+    ensures { option_map part_doc result ≡ number_doc holds (num number.now) }
 {
-    let whole = number.as_u64()?;
-    if holds.allows_number(whole) {
-        Some(Part::Number(whole))
+    let number = whole(number)?;
+    if holds.allows_number(number) {
+        Some(Part::Number(number))
     } else {
         None
     }

@@ -6,6 +6,8 @@ mod head;
 mod leaves;
 mod misread;
 mod nodes;
+mod number;
+mod range;
 pub mod read;
 
 pub use read::{ReadFault, read_tree};

@@ -1,0 +1,14 @@
+-- The last of a name is the last in front of what was looked at.
+use Rattle.std.proofs.Common.{◌≡◌, ◌≤◌, length, take}
+use Rattle.json.specs.Find.{get_member}
+use Rattle.json.specs.Value.{members_view}
+use Rattle.oxt_json.proofs.head.member.Given as goal
+
+abbrev pub invariant-loop-left : goal.invariant-loop-left
+invariant-loop-left l = record {
+  found : get_member l.key (members_view l.members) ≡ get_member l.key (members_view (take l.left l.members));
+  within : l.left ≤ length l.members;
+}
+
+abbrev pub decreases-loop-left : goal.decreases-loop-left
+decreases-loop-left l = l.left

@@ -1,0 +1,11 @@
+-- Both loops keep: all are in range where those that are left are.
+use Rattle.std.proofs.Common.{◌≡◌, drop}
+use Rattle.json.specs.Value.{items_view, members_view}
+use Rattle.oxt_json.specs.Data.{items_in_range, members_in_range}
+use Rattle.oxt_json.proofs.range.+range.Given as goal
+
+abbrev pub invariant-are_items_in_range-loop-item : goal.invariant-are_items_in_range-loop-item
+invariant-are_items_in_range-loop-item l = items_in_range (items_view l.items) ≡ items_in_range (items_view (drop l.item-index l.items))
+
+abbrev pub invariant-are_members_in_range-loop-member : goal.invariant-are_members_in_range-loop-member
+invariant-are_members_in_range-loop-member l = members_in_range (members_view l.members) ≡ members_in_range (members_view (drop l.member-index l.members))
