@@ -1,8 +1,9 @@
 #!/usr/bin/env python3
-"""Writes trees of TypeScript programs of given sizes: make_trees.py FOLDER BYTES..
+"""Writes trees of TypeScript programs of given sizes: make_trees.py FOLDER [FORM-]BYTES..
 
-The trees are the same at each run. They have the forms that `oxt` takes: types, wrappers, functions,
-classes, blocks and loops, with spans on all nodes.
+The trees are the same at each run. They have the forms that most programs have: types, wrappers, functions,
+classes, blocks and loops, with spans on all nodes. One of FORM has also enums, namespaces, fields or decorators
+in each stretch.
 """
 import itertools
 import json
@@ -123,6 +124,41 @@ def statements(i):
             sum_function(i), store_class(i), handler(i)]
 
 
+def color_enum(i):
+    """enum Color0 { Red = 1, Green, Both = Red | Green } console.log(Color0.Red);"""
+    members = [node("TSEnumMember", id=key("Red"), initializer=number(1)), node("TSEnumMember", id=key("Green")),
+               node("TSEnumMember", id=key("Both"), initializer=binary(name("Red"), "|", name("Green")))]
+    use = call(member(name("console"), "log"), member(name(f"Color{i}"), "Red"))
+    return [node("TSEnumDeclaration", id=binding(f"Color{i}"), body=node("TSEnumBody", members=members)), expression_statement(use)]
+
+
+def space(i):
+    """namespace Space0 { export const limit: number = 0; use(limit); function sum0(..) { .. } }"""
+    limit = node("ExportDeclaration", declaration=variable("const", "limit", "Number", number(i)))
+    use = expression_statement(call(name("use"), name("limit")))
+    body = node("TSModuleBlock", body=[limit, use, sum_function(i)])
+    return [node("TSNamespaceDeclaration", kind="namespace", id=binding(f"Space{i}"), body=body)]
+
+
+def field_class(i):
+    """The class of a stretch with three fields more, the last of which is static."""
+    store = store_class(i)
+    store["body"]["body"] += [node("PropertyDefinition", key=key(text), static=text == "last", value=binary(number(i), "+", number(1)))
+                              for text in ("first", "second", "last")]
+    return [store]
+
+
+def decorated_class(i):
+    """The same, where the class and all its elements but the static one are decorated."""
+    store, = field_class(i)
+    for decorated in [store, *store["body"]["body"][:-1]]:
+        decorated["decorators"] = [node("Decorator", expression=call(name("noted")))]
+    return [store]
+
+
+FORMS = {"": lambda i: [], "enums": color_enum, "namespaces": space, "fields": field_class, "decorators": decorated_class}
+
+
 def place(value, at):
     """Gives each node a span that holds those of the nodes in it, and answers the first offset behind."""
     if isinstance(value, list):
@@ -141,10 +177,11 @@ def compact(value):
     return json.dumps(value, separators=(",", ":"))
 
 
-def program(size):
-    """The text of a program of about so many bytes."""
+def program(form, size):
+    """The text of a program of about so many bytes, with that form in each stretch."""
+    stretches = (statements(i) + FORMS[form](i) for i in itertools.count())
     pieces, total, at = [], 0, 0
-    for statement in itertools.chain.from_iterable(map(statements, itertools.count())):
+    for statement in itertools.chain.from_iterable(stretches):
         at = place(statement, at)
         pieces.append(compact(statement))
         total += len(pieces[-1]) + 1
@@ -154,10 +191,11 @@ def program(size):
 
 
 def main():
-    folder, *sizes = sys.argv[1:]
-    for size in sizes:
-        with open(f"{folder}/{size}.json", "w") as file:
-            file.write(program(int(size)))
+    folder, *trees = sys.argv[1:]
+    for tree in trees:
+        form, _, size = tree.rpartition("-")
+        with open(f"{folder}/{tree}.json", "w") as file:
+            file.write(program(form, int(size)))
 
 
 main()

@@ -10,6 +10,6 @@ done
 
 trees=$(mktemp -d)
 trap 'rm -r "$trees"' EXIT
-sizes="10000 1500000 15000000"
-python3 bench/make_trees.py "$trees" $sizes
-python3 bench/times.py "${1:-9}" "$trees" $sizes
+names="10000 1500000 15000000 enums-1500000 namespaces-1500000 fields-1500000 decorators-1500000"
+python3 bench/make_trees.py "$trees" $names
+python3 bench/times.py "${1:-9}" "$trees" $names

@@ -1,7 +1,7 @@
 #!/usr/bin/env python3
-"""Times programs on trees: times.py RUNS FOLDER SIZE.. , on crates/oxt and crates/oxt_floor in turn.
+"""Times programs on trees: times.py RUNS FOLDER TREE.. , on crates/oxt and crates/oxt_floor in turn.
 
-Prints the processor time in milliseconds, best and median, and the most memory, of each; for a small
+A form of a tree is lowered under the flags for it. Prints the processor time in milliseconds, best and median, and the most memory, of each; for a small
 tree the memory is that of this script, from which the programs are started.
 """
 import os
@@ -10,12 +10,15 @@ import subprocess
 import sys
 
 PROGRAMS = ("oxt_floor", "oxt")
+FLAGS = {"fields": ["--set-public-class-fields"], "decorators": ["--legacy"]}
 
 
 def run(program, path):
     """The milliseconds of processor time and the megabytes of one run."""
+    form = os.path.basename(path).rpartition("-")[0]
+    flags = FLAGS.get(form, []) if program == "oxt" else []
     with open(path, "rb") as source:
-        child = subprocess.Popen([f"crates/{program}/out/{program}"], stdin=source, stdout=subprocess.DEVNULL)
+        child = subprocess.Popen([f"crates/{program}/out/{program}", *flags], stdin=source, stdout=subprocess.DEVNULL)
         _, status, usage = os.wait4(child.pid, 0)
     if status != 0:
         sys.exit(f"{program} failed on {path}")
@@ -38,16 +41,16 @@ def measure(path, runs):
 
 
 def main():
-    runs, folder, *sizes = sys.argv[1:]
+    runs, folder, *trees = sys.argv[1:]
     earlier = {}
-    for size in sizes:
-        path = f"{folder}/{size}.json"
+    for tree in trees:
+        path = f"{folder}/{tree}.json"
         with open(path) as file:
             nodes = file.read().count('"type":')
-        print(f"{os.path.getsize(path):,} bytes, {nodes:,} nodes")
+        print(f"{tree}: {os.path.getsize(path):,} bytes, {nodes:,} nodes")
         best = measure(path, int(runs))
         print(f"  oxt takes {best['oxt'] / best['oxt_floor']:.2f} times the floor")
-        if earlier:
+        if earlier and "-" not in tree:
             grown = nodes / earlier["nodes"]
             factor = best["oxt"] / earlier["oxt"]
             print(f"  {grown:.2f} times the nodes take {factor:.2f} times the time")

@@ -4,6 +4,7 @@ pub mod Diagnostics
 pub mod Faults
 pub mod Laws
 pub mod Misplacements
+pub mod Occurring
 pub mod Refusals
 pub mod Seats
 pub mod Targets

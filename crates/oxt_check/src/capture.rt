@@ -1,15 +1,20 @@
 //! The first captured name of a program, by all that captures.
-ghost use Rattle.std.specs.Prelude.{◌≡◌, IfOk, option_map};
+ghost use Rattle.std.specs.Prelude.{◌≡◌, ◌||◌, IfOk, option_map};
 ghost use Rattle.oxt_check.specs.Captures.{captured_moved, captured_spelling, captured_word, first_capture, former, name_view, shadow_capture, word_capture};
+ghost use Rattle.oxt_check.specs.Occurring.{makes_names};
 ghost use Rattle.oxt_enum_checks.specs.Shadows.{shadow_view};
 ghost use Rattle.oxt_faults.specs.Captured.{capture_view};
 ghost use Rattle.oxt_faults.specs.Earliest.{moved_view};
-ghost use Rattle.oxt_faults.specs.Free.{free_view};
+ghost use Rattle.oxt_faults.specs.Free.{free, free_view};
+ghost use Rattle.oxt_faults.specs.Initializers.{initializer_word};
 ghost use Rattle.oxt_faults.specs.Level.{found_view};
+ghost use Rattle.oxt_faults.specs.Namespaces.{namespace_word};
 ghost use Rattle.oxt_fields.specs.Rules.{rules_view};
+ghost use Rattle.oxt_modules.specs.Aliases.{left_out};
 ghost use Rattle.oxt_options.specs.Facts.{is_in};
 ghost use Rattle.oxt_tree.specs.View.{node_doc};
 
+use crate::survey::Survey;
 use oxt_decorator_checks::moved::first_moved_decorator;
 use oxt_enum_checks::shadowed::{ShadowedName, first_shadowed};
 use oxt_faults::captured::{CapturedName, first_captured};
@@ -19,6 +24,7 @@ use oxt_faults::level::FoundWord;
 use oxt_faults::moved::{MovedName, first_moved_capture};
 use oxt_faults::namespace::first_namespace_word;
 use oxt_fields::rules::FieldRules;
+use oxt_grammar::kind::Kind;
 use oxt_modules::alias::left_out_names;
 use oxt_modules::nodes::NodeList;
 use oxt_scoping::scoping::Scoping;
@@ -54,25 +60,54 @@ pub fn first_capture<'a>(
     ensures { IfOk result (λ found. option_map name_view found
         ≡ first_capture scoping.now (rules_view rules.entry) (is_in kept.now) (node_doc program.now)) }
 {
-    let word = captured_word(alloc, program, scoping, rules.legacy)?;
+    let survey = Survey::of(alloc, program)?;
+    let word = captured_word(alloc, &survey, scoping, rules.legacy)?;
     let moved = captured_moved(alloc, program, scoping, rules)?;
-    let spelling = captured_spelling(alloc, program, scoping, rules, kept)?;
+    let spelling = captured_spelling(alloc, &survey, scoping, rules, kept)?;
     Ok(former(word, former(moved, spelling)))
 }
 
 /// The first word in an initializer or a namespace that goes into a function.
 fn captured_word<'a>(
     alloc: Global,
-    program: &'a Node,
+    survey: &Survey<'a>,
     scoping: &'a Scoping,
     legacy: bool,
 ) -> Result<Option<NameAt<'a>>, OutOfMemory>
     ensures { IfOk result (λ found. option_map name_view found
-        ≡ captured_word legacy scoping.now (node_doc program.now)) }
+        ≡ captured_word legacy scoping.now (node_doc survey.now.program.now)) }
 {
-    let initializer = of_word(first_initializer_word(alloc, legacy, program, scoping)?);
-    let namespace = of_word(first_namespace_word(legacy, program));
-    Ok(former(initializer, namespace))
+    let initializer = word_in_initializer(alloc, survey, scoping, legacy)?;
+    let namespace = word_in_namespace(survey, legacy);
+    Ok(former(of_word(initializer), of_word(namespace)))
+}
+
+/// The first word in an initializer.
+fn word_in_initializer(
+    alloc: Global,
+    survey: &Survey,
+    scoping: &Scoping,
+    legacy: bool,
+) -> Result<Option<FoundWord>, OutOfMemory>
+    ensures { IfOk result (λ found. option_map found_view found
+        ≡ initializer_word legacy scoping.now (node_doc survey.now.program.now)) }
+{
+    if survey.has(Kind::TSEnumMember) {
+        first_initializer_word(alloc, legacy, survey.program, scoping)
+    } else {
+        Ok(None)
+    }
+}
+
+/// The first word in a namespace.
+fn word_in_namespace(survey: &Survey, legacy: bool) -> Option<FoundWord>
+    ensures { option_map found_view result ≡ namespace_word legacy (node_doc survey.now.program.now) }
+{
+    if survey.has(Kind::TSModuleBlock) {
+        first_namespace_word(legacy, survey.program)
+    } else {
+        None
+    }
 }
 
 /// The first name in what of a class moves: its fields, their keys, and its decorators.
@@ -93,19 +128,54 @@ fn captured_moved<'a>(
 /// The first name that would mean another declaration.
 fn captured_spelling<'a>(
     alloc: Global,
-    program: &'a Node,
+    survey: &Survey<'a>,
     scoping: &'a Scoping,
     rules: FieldRules,
     kept: &NodeList,
 ) -> Result<Option<NameAt<'a>>, OutOfMemory>
     ensures { IfOk result (λ found. option_map name_view found
-        ≡ captured_spelling (rules_view rules.entry) scoping.now (is_in kept.now) (node_doc program.now)) }
+        ≡ captured_spelling (rules_view rules.entry) scoping.now (is_in kept.now) (node_doc survey.now.program.now)) }
 {
-    let left_out = left_out_names(alloc, program, kept)?;
+    let program = survey.program;
+    let left_out = left_out_of(alloc, survey, kept)?;
     let erased = of_name(first_captured(alloc, rules, program, scoping, &left_out)?);
-    let made = of_free(first_free(rules, program, scoping, kept));
+    let made = of_free(made_name(survey, scoping, rules, kept));
     let shadowed = of_shadow(first_shadowed(alloc, program, scoping, rules.legacy)?);
     Ok(former(erased, former(made, shadowed)))
+}
+
+/// The names of those of the declarations `import a = ..` that are not kept.
+fn left_out_of(alloc: Global, survey: &Survey, kept: &NodeList) -> Result<NodeList, OutOfMemory>
+    ensures { IfOk result (λ names. names ≡ left_out (is_in kept.now) (node_doc survey.now.program.now)) }
+{
+    if survey.has(Kind::TSImportEqualsDeclaration) {
+        left_out_names(alloc, survey.program, kept)
+    } else {
+        Ok(NodeList::new(alloc))
+    }
+}
+
+/// The first free name that is made; without decorators that are lowered, only some forms have one.
+fn made_name(
+    survey: &Survey,
+    scoping: &Scoping,
+    rules: FieldRules,
+    kept: &NodeList,
+) -> Option<FoundFree>
+    ensures { option_map free_view result ≡ free (rules_view rules.entry) scoping.now (is_in kept.now) (node_doc survey.now.program.now) }
+{
+    if is_made(survey, rules.legacy) {
+        first_free(rules, survey.program, scoping, kept)
+    } else {
+        None
+    }
+}
+
+/// Whether a free name may be made.
+fn is_made(survey: &Survey, legacy: bool) -> bool
+    ensures { result ≡ (legacy || makes_names (node_doc survey.now.program.now)) }
+{
+    legacy || survey.makes_names()
 }
 
 /// The name whose declaration is erased.

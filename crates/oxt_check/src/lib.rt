@@ -12,6 +12,7 @@ pub mod named;
 mod push;
 mod seat;
 mod sight;
+mod survey;
 pub mod targets;
 mod tell;
 mod wrapped;

@@ -1,5 +1,5 @@
 //! The wrappers of a program that stay where something is assigned.
-ghost use Rattle.std.specs.Prelude.{◌≡◌, ℕ, IfOk, length};
+ghost use Rattle.std.specs.Prelude.{◌≡◌, ℕ, [], IfOk, length};
 ghost use Rattle.oxt_check.specs.Targets.{is_listed, numbers_in, targets};
 ghost use Rattle.oxt_tree.specs.View.{node_doc};
 
@@ -43,6 +43,16 @@ impl WrappedTargets {
         let nodes = wrapped_targets(alloc, program, legacy)?;
         let set = set_of(alloc, nodes.as_slice())?;
         Ok(WrappedTargets { set, nodes })
+    }
+
+    /// None.
+    pub fn none(alloc: Global) -> WrappedTargets
+        ensures { result ≡ [] }
+    {
+        WrappedTargets {
+            set: IndexSet::new(alloc),
+            nodes: Vec::new(alloc),
+        }
     }
 
     /// Whether the node is one of them.

@@ -44,6 +44,7 @@ pub fn tell_of_node(
 
 /// Appends what is told of the part.
 #[cycle(tell)]
+#[inline(always)]
 fn tell_of_part(
     told: &mut Vec<OxcDiagnostic>,
     sight: &Sight<'_>,

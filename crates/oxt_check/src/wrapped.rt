@@ -11,6 +11,7 @@ use oxt_tree::tree::Node;
 
 /// Whether the node is a wrapper where something is assigned, around neither an identifier nor a member, by what
 /// the field holds in which it stands or in whose list.
+#[inline(always)]
 pub fn is_wrapped_target(holds: Holds, node: &Node) -> bool
     ensures { result ≡ is_wrapped_target holds (node_doc node.now) }
 {

@@ -16,16 +16,16 @@ use Rattle.oxt_tree.specs.Doc.{Doc, nil, flag, number, text, list, node, Docs, n
 abbrev pub GivesNothing : {S A : Type 0} → Sought S A → Type 0
 GivesNothing {S} q = (s : S) (k : Kind) (i : ℕ) (ds : Docs) → q.at s k i ds ≡ None
 
-both_none : {A : Type 0} (xs ys : List A) → xs ≡ [] → ys ≡ [] → xs ++ ys ≡ []
+pub both_none : {A : Type 0} (xs ys : List A) → xs ≡ [] → ys ≡ [] → xs ++ ys ≡ []
 both_none xs ys e h = ap (λ zs. zs ++ ys) e ∙ h
 
-inside_none : {S A : Type 0} (alike by_field : S → List A) (alone : FieldName → S → List A) → ((s : S) → alike s ≡ []) → ((s : S) → by_field s ≡ []) → ((f : FieldName) (s : S) → alone f s ≡ []) → (x : Inside S) → given_inside alike by_field alone x ≡ []
+pub inside_none : {S A : Type 0} (alike by_field : S → List A) (alone : FieldName → S → List A) → ((s : S) → alike s ≡ []) → ((s : S) → by_field s ≡ []) → ((f : FieldName) (s : S) → alone f s ≡ []) → (x : Inside S) → given_inside alike by_field alone x ≡ []
 inside_none alike by_field alone h g e inside.Skipped = refl
 inside_none alike by_field alone h g e (inside.Alike s) = h s
 inside_none alike by_field alone h g e (inside.ByField s) = g s
 inside_none alike by_field alone h g e (inside.Only f s) = e f s
 
-field_none : {S A : Type 0} (f : S → List A) → ((s : S) → f s ≡ []) → (o : Option S) → given_in f o ≡ []
+pub field_none : {S A : Type 0} (f : S → List A) → ((s : S) → f s ≡ []) → (o : Option S) → given_in f o ≡ []
 field_none f h None = refl
 field_none f h (Some s) = h s
 

@@ -91,6 +91,7 @@ impl<'a> GroupSearch<'a> {
 }
 
 /// The group that the node of that kind declares or means.
+#[inline(always)]
 pub fn own_group(scoping: &Scoping, kind: Kind, node: NodeId) -> Option<u64>
     ensures { result ≡ own_group scoping.now kind node.0 }
 {

@@ -96,15 +96,19 @@ expected_view x =
     }
 
 -- What is expected under the options of the output of a source of whose nodes that is asked and of which that is the
--- table.
-abbrev pub expected_by : Scoped → Asked → TransformData → Doc → ExpectedData
-expected_by s p o source =
+-- table, beside wrappers of these numbers.
+abbrev pub expected_beside : List ℕ → Scoped → Asked → TransformData → Doc → ExpectedData
+expected_beside staying s p o source =
     record {
       word = source_word_by s p o source;
       names = names_of source;
       settings = settings_by (due_by p o source) o.decorator.legacy source;
-      staying = targets o.decorator.legacy source;
+      staying = staying;
     }
+
+-- the same beside those that may stay
+abbrev pub expected_by : Scoped → Asked → TransformData → Doc → ExpectedData
+expected_by s p o source = expected_beside (targets o.decorator.legacy source) s p o source
 
 -- what is expected of the output of a source under the options
 abbrev pub expected_of : TransformData → Doc → ExpectedData

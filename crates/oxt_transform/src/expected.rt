@@ -3,7 +3,7 @@ ghost use Rattle.std.specs.Prelude.{◌≡◌, IfOk};
 ghost use Rattle.oxt_facts.specs.Entry.{entries};
 ghost use Rattle.oxt_options.specs.Options.{transform_view};
 ghost use Rattle.oxt_told.specs.Source.{asked_of};
-ghost use Rattle.oxt_transform.specs.Expected.{due_by, expected_by, expected_view, source_word_by};
+ghost use Rattle.oxt_transform.specs.Expected.{due_by, expected_beside, expected_by, expected_view, source_word_by};
 ghost use Rattle.oxt_tree.specs.View.{node_doc};
 
 use crate::settings::Settings;
@@ -51,16 +51,34 @@ impl Expected {
         ensures { IfOk result (λ expected. expected_view expected
             ≡ expected_by scoping.now (asked_of plan.now) (transform_view options.now) (node_doc source.now)) }
     {
+        let targets = WrappedTargets::of(alloc, source, options.decorator.legacy)?;
+        Expected::beside(alloc, source, scoping, plan, options, targets)
+    }
+
+    /// The same, where these wrappers may stay in it.
+    ///
+    /// # Errors
+    ///
+    /// `OutOfMemory` for want of memory alone.
+    pub(crate) fn beside(
+        alloc: Global,
+        source: &Node,
+        scoping: &Scoping,
+        plan: &Plan,
+        options: &TransformOptions,
+        staying: WrappedTargets,
+    ) -> Result<Expected, OutOfMemory>
+        ensures { IfOk result (λ expected. expected_view expected
+            ≡ expected_beside staying scoping.now (asked_of plan.now) (transform_view options.now) (node_doc source.now)) }
+    {
         let word = source_word(alloc, source, scoping, plan, options)?;
         let due = is_due(source, plan, options);
-        let legacy = options.decorator.legacy;
-        let settings = Settings::of(alloc, source, due, legacy)?;
-        let targets = WrappedTargets::of(alloc, source, legacy)?;
+        let settings = Settings::of(alloc, source, due, options.decorator.legacy)?;
         let names = UidNames::of_tree(alloc, source)?;
         Ok(Expected {
             word,
             settings,
-            targets,
+            targets: staying,
             names,
         })
     }

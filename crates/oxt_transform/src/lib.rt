@@ -11,6 +11,7 @@ mod passes;
 mod plain_source;
 pub mod program;
 pub mod settings;
+mod staying;
 pub mod transform;
 pub mod typescript;
 

@@ -8,7 +8,7 @@ ghost use Rattle.oxt_options.specs.Options.{transform_view};
 ghost use Rattle.oxt_options.specs.Facts.{Answers};
 ghost use Rattle.oxt_resolve.specs.Resolved.{resolved};
 ghost use Rattle.oxt_told.specs.Source.{asked_of};
-ghost use Rattle.oxt_transform.specs.Expected.{expected_by, expected_view, fault_of, keeps};
+ghost use Rattle.oxt_transform.specs.Expected.{expected_beside, expected_view, fault_of, keeps};
 ghost use Rattle.oxt_transform.specs.Faults.{refusal_in, IsReasonFor, text_in, told_in};
 ghost use Rattle.oxt_transform.specs.Lowering.{IsTextOfOne, Lowers, Passes, ReturnsPlain};
 ghost use Rattle.oxt_transform.specs.Outcomes.{answer_of};
@@ -21,8 +21,10 @@ use crate::certificate::certify;
 use crate::expected::Expected;
 use crate::fault::{Fault, fault_of_reading};
 use crate::passes::{Tables, rewrite};
+use crate::staying::staying_wrappers;
 use oxt_check::check;
 use oxt_check::diagnose::diagnostics_of;
+use oxt_check::targets::WrappedTargets;
 use oxt_json::read_tree;
 use oxt_json_write::write_tree;
 use oxt_laws::text_tells_trees;
@@ -135,14 +137,21 @@ fn lower(
             return Err(Fault::OutOfMemory);
         }
     };
-    match rewrite_and_test(alloc, program, options, tables) {
+    let staying = match staying_wrappers(alloc, &program.root, told.as_slice(), options) {
+        Ok(staying) => staying,
+        Err(_) => {
+            drop(tables);
+            return Err(Fault::OutOfMemory);
+        }
+    };
+    match rewrite_and_test(alloc, program, options, tables, staying) {
         Ok(()) => Ok(told),
         Err(fault) => Err(fault),
     }
 }
 
-/// Rewrites the program, of which the tables are known, and tests what comes out against its effect word, which is read
-/// before.
+/// Rewrites the program, of which the tables are known and in which these wrappers may stay, and tests what comes out against its
+/// effect word, which is read before.
 ///
 /// # Errors
 ///
@@ -152,17 +161,26 @@ fn rewrite_and_test(
     program: &mut Program,
     options: &TransformOptions,
     tables: Tables,
+    staying: WrappedTargets,
 ) -> Result<(), Fault>
     ensures judged { OnOk result (Judges
-        (expected_by tables.scoping (asked_of tables.plan) (transform_view options.now) (node_doc program.old.root))
+        (expected_beside staying tables.scoping (asked_of tables.plan) (transform_view options.now) (node_doc program.old.root))
         (node_doc program.new.root) None) }
     ensures comes_back { OnOk result (ComesBack (transform_view options.now)
         (node_doc program.old.root) (node_doc program.new.root)) }
     ensures failed { IfErr result (λ f. IsFailure (refusal_in f)
-        (expected_by tables.scoping (asked_of tables.plan) (transform_view options.now) (node_doc program.old.root))
+        (expected_beside staying tables.scoping (asked_of tables.plan) (transform_view options.now) (node_doc program.old.root))
         (node_doc program.new.root)) }
 {
-    match Expected::of(alloc, &program.root, &tables.scoping, &tables.plan, options) {
+    let expected = Expected::beside(
+        alloc,
+        &program.root,
+        &tables.scoping,
+        &tables.plan,
+        options,
+        staying,
+    );
+    match expected {
         Ok(expected) => {
             let tested = rewrite_to(alloc, &expected, program, options, tables);
             drop(expected);

@@ -48,6 +48,7 @@ pub fn leave_node<T: Traverse>(
 }
 
 /// Runs those of the hooks that want the kind that the node has at their turn.
+#[inline(always)]
 fn run_wanted<T: Traverse>(
     pass: &mut T,
     hooks: &[Hook],
