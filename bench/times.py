@@ -1,10 +1,12 @@
 #!/usr/bin/env python3
 """Times programs on trees: times.py RUNS FOLDER TREE.. , on crates/oxt and crates/oxt_floor in turn.
 
-A form of a tree is lowered under the flags for it. Prints the processor time in milliseconds, best and median, and the most memory, of each; for a small
-tree the memory is that of this script, from which the programs are started.
+A form of a tree is lowered under the flags for it. Prints the processor time in milliseconds, best and median, the most memory, and the instructions where
+there is valgrind, of each; for a small tree the memory is that of this script, from which the programs are started.
 """
 import os
+import re
+import shutil
 import statistics
 import subprocess
 import sys
@@ -13,12 +15,16 @@ PROGRAMS = ("oxt_floor", "oxt")
 FLAGS = {"fields": ["--set-public-class-fields"], "decorators": ["--legacy"]}
 
 
+def words(program, path):
+    """The words that run the program on the tree."""
+    form = os.path.basename(path).rpartition("-")[0]
+    return [f"crates/{program}/out/{program}", *(FLAGS.get(form, []) if program == "oxt" else [])]
+
+
 def run(program, path):
     """The milliseconds of processor time and the megabytes of one run."""
-    form = os.path.basename(path).rpartition("-")[0]
-    flags = FLAGS.get(form, []) if program == "oxt" else []
     with open(path, "rb") as source:
-        child = subprocess.Popen([f"crates/{program}/out/{program}", *flags], stdin=source, stdout=subprocess.DEVNULL)
+        child = subprocess.Popen(words(program, path), stdin=source, stdout=subprocess.DEVNULL)
         _, status, usage = os.wait4(child.pid, 0)
     if status != 0:
         sys.exit(f"{program} failed on {path}")
@@ -40,6 +46,20 @@ def measure(path, runs):
     return best
 
 
+def instructions(program, path):
+    """The instructions of one run, in millions."""
+    count = ["valgrind", "--tool=callgrind", "--callgrind-out-file=/dev/null"]
+    with open(path, "rb") as source:
+        done = subprocess.run([*count, *words(program, path)], stdin=source, stdout=subprocess.DEVNULL, stderr=subprocess.PIPE, text=True, check=True)
+    return int(re.search(r"refs: +([0-9,]+)", done.stderr)[1].replace(",", "")) / 1e6
+
+
+def count_instructions(path):
+    """Prints the instructions of each program on a tree, and the ratio."""
+    floor, oxt = (instructions(program, path) for program in PROGRAMS)
+    print(f"  instructions: oxt_floor {floor:.1f} M, oxt {oxt:.1f} M, {oxt / floor:.2f} times the floor")
+
+
 def main():
     runs, folder, *trees = sys.argv[1:]
     earlier = {}
@@ -50,6 +70,8 @@ def main():
         print(f"{tree}: {os.path.getsize(path):,} bytes, {nodes:,} nodes")
         best = measure(path, int(runs))
         print(f"  oxt takes {best['oxt'] / best['oxt_floor']:.2f} times the floor")
+        if shutil.which("valgrind"):
+            count_instructions(path)
         if earlier and "-" not in tree:
             grown = nodes / earlier["nodes"]
             factor = best["oxt"] / earlier["oxt"]
