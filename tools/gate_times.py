@@ -103,7 +103,7 @@ def run_gate(clone):
     last = text.rstrip().rpartition("\n")[2]
     if not LAST_LINE.match(last):
         sys.exit(f"the gate did not come to its end: {last}")
-    return last, time.monotonic() - begin, spent.by_crate(), text
+    return last, time.monotonic() - begin, spent.by_crate()
 
 
 def crates_in(clone):
@@ -203,10 +203,11 @@ def main():
     with tempfile.TemporaryDirectory(prefix="oxt-gate-") as room:
         clone = pathlib.Path(room) / "oxt"
         subprocess.run(["git", "clone", "-q", REPO, clone], check=True)
-        last, elapsed, seconds, _log = run_gate(clone)
+        last, elapsed, seconds = run_gate(clone)
+        OUT.write_text(page(last, elapsed, seconds, []), encoding="utf-8")
+        print(f"{last}, {elapsed:.0f} s; {OUT.relative_to(REPO)} is written, and its functions are timed", flush=True)
         dear = [name for name, counted in seconds.items() if counted[PROOF] > CHEAP]
         OUT.write_text(page(last, elapsed, seconds, slow_functions(clone, dear)), encoding="utf-8")
-    print(f"{last}, {elapsed:.0f} s; {OUT.relative_to(REPO)} is written")
 
 
 if __name__ == "__main__":

@@ -21,7 +21,7 @@ use Rattle.oxt_grammar.specs.declared.kind.Kind.{Kind}
 use Rattle.oxt_grammar.specs.declared.kind.Kind.TheVariants as kind
 use Rattle.oxt_modules.specs.Aliases.{alias_named, alias_search, is_required, left_out, left_out_names}
 use Rattle.oxt_scoping.specs.Scoped.{Scoped}
-use Rattle.oxt_enum_checks.proofs.Nothing.{either_none}
+use Rattle.oxt_search.proofs.Nothing.{either_none}
 use Rattle.oxt_search.specs.First.{first}
 use Rattle.oxt_tree.specs.Doc.{Doc, Docs}
 use Rattle.oxt_tree.specs.Fields.{is_kind, is_set, named}

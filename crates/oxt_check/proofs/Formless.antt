@@ -9,7 +9,7 @@ use Rattle.oxt_grammar.specs.Rows.{row_of}
 use Rattle.oxt_grammar.specs.declared.kind.Kind.{Kind}
 use Rattle.oxt_search.specs.All.{all_among, all_at, all_below, all_in, given, given_in, given_inside}
 use Rattle.oxt_search.specs.Sought.{Sought}
-use Rattle.oxt_enum_checks.proofs.Nothing.{both_none, each_empty, field_none, inside_none}
+use Rattle.oxt_search.proofs.Nothing.{both_none, each_empty, field_none, inside_none}
 use Rattle.oxt_tree.specs.Doc.{Doc, nil, flag, number, text, list, node, Docs, no_docs, doc}
 
 pub neither : (a b : Bool) → (a || b) ≡ false → (a ≡ false) × (b ≡ false)

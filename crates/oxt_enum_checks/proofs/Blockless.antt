@@ -11,7 +11,7 @@ use Rattle.oxt_enum_checks.specs.Sort.{is_block, sort_of}
 use Rattle.oxt_enum_checks.specs.Sought.{HasNoBlock, block_if, block_named, blocks_in, first_at, first_name, first_names, has_block, is_block_kind, is_emitting_block, is_first, is_sought, named_blocks, own_block}
 use Rattle.oxt_enum_checks.specs.declared.sought.Block.{Block}
 use Rattle.oxt_enum_checks.specs.declared.sought.Sought.TheVariants as sought
-use Rattle.oxt_enum_checks.proofs.Nothing.{none_in}
+use Rattle.oxt_search.proofs.Nothing.{none_in}
 use Rattle.oxt_scoping.specs.Entries.{SymbolData}
 use Rattle.oxt_scoping.specs.Scoped.{Scoped}
 use Rattle.oxt_scoping.specs.declared.entry.Redeclaration.{Redeclaration}

@@ -6,7 +6,6 @@ pub mod Leasts
 pub mod Memberless
 pub mod Names
 pub mod Namesakes
-pub mod Nothing
 pub mod Numbers
 pub mod Seeks
 pub mod ShadowLoops

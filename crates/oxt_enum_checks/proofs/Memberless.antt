@@ -18,7 +18,7 @@ use Rattle.oxt_enum_checks.specs.Wide.{ends_with_largest, has_largest, is_larges
 use Rattle.oxt_enum_checks.specs.Wide as wides
 use Rattle.oxt_enum_checks.specs.declared.members.EnumMember.{EnumMember}
 use Rattle.oxt_enum_checks.specs.declared.wide.WideMember.{WideMember}
-use Rattle.oxt_enum_checks.proofs.Nothing.{each_empty, either_none, none_in}
+use Rattle.oxt_search.proofs.Nothing.{each_empty, either_none, none_in}
 use Rattle.oxt_scopes.specs.Owners.{read}
 use Rattle.oxt_scopes.specs.Scopes.{Level}
 use Rattle.oxt_scopes.specs.Ways.{step_of, way_of}

@@ -1,4 +1,5 @@
 pub mod Alls
 pub mod Firsts
 pub mod Given
+pub mod Nothing
 mod Alone
