@@ -4,3 +4,4 @@ pub mod OwnerLoops
 pub mod ScopeLoops
 pub mod Stacks
 pub mod Tables
+pub mod Unsigned

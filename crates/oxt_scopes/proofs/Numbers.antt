@@ -1,39 +1,39 @@
 -- Numbers of scopes that are put on those around a place, and taken off.
 use Rattle.std.proofs.Common.{◌≡◌, ◌∙◌, refl, ap, ℕ, zero, suc, ◌-◌, List, [], ◌∷◌, ◌++◌, length, take, fold, arith}
-use Rattle.oxt_tree.specs.declared.ids.NodeId.{NodeId}
 use Rattle.oxt_scopes.specs.Nestings.{outer}
-use Rattle.oxt_scopes.specs.Views.{numbers}
+use Rattle.oxt_scopes.specs.Stack.{scope_numbers}
+use Rattle.oxt_scopes.specs.declared.scope.Scope.{Scope}
 
-abbrev pub deeper : List ℕ → NodeId → List ℕ
-deeper ns i = i.0 ∷ ns
+abbrev pub deeper : List ℕ → Scope → List ℕ
+deeper ns s = s.number.0 ∷ ns
 
-push_from : (ns : List ℕ) (is : List NodeId) (i : NodeId) → fold deeper ns (is ++ i ∷ []) ≡ deeper (fold deeper ns is) i
-push_from ns [] i = refl
-push_from ns (j ∷ is) i = push_from (deeper ns j) is i
+push_from : (ns : List ℕ) (ss : List Scope) (s : Scope) → fold deeper ns (ss ++ s ∷ []) ≡ deeper (fold deeper ns ss) s
+push_from ns [] s = refl
+push_from ns (r ∷ ss) s = push_from (deeper ns r) ss s
 
-pub numbers_push : (is : List NodeId) (i : NodeId) → numbers (is ++ i ∷ []) ≡ i.0 ∷ numbers is
-numbers_push is i = push_from [] is i
+pub numbers_push : (ss : List Scope) (s : Scope) → scope_numbers (ss ++ s ∷ []) ≡ s.number.0 ∷ scope_numbers ss
+numbers_push ss s = push_from [] ss s
 
-pop_from : (ns : List ℕ) (n : ℕ) (is : List NodeId) → length is ≡ suc n → fold deeper ns (take n is) ≡ outer (fold deeper ns is)
+pop_from : (ns : List ℕ) (n : ℕ) (ss : List Scope) → length ss ≡ suc n → fold deeper ns (take n ss) ≡ outer (fold deeper ns ss)
 pop_from ns n [] long = absurd (omega arith)
-pop_from ns zero (i ∷ []) long = refl
-pop_from ns zero (i ∷ j ∷ is) long = absurd (omega arith)
-pop_from ns (suc n) (i ∷ is) long = pop_from (deeper ns i) n is (omega arith)
+pop_from ns zero (s ∷ []) long = refl
+pop_from ns zero (s ∷ r ∷ ss) long = absurd (omega arith)
+pop_from ns (suc n) (s ∷ ss) long = pop_from (deeper ns s) n ss (omega arith)
 
-pub numbers_pop : (before after : List NodeId) → after ≡ take (length before - 1) before → numbers after ≡ outer (numbers before)
-numbers_pop [] after is = ap numbers is ∙ none (0 - 1)
+pub numbers_pop : (before after : List Scope) → after ≡ take (length before - 1) before → scope_numbers after ≡ outer (scope_numbers before)
+numbers_pop [] after is = ap scope_numbers is ∙ none (0 - 1)
   where
-    none : (n : ℕ) → numbers (take n []) ≡ []
+    none : (n : ℕ) → scope_numbers (take n []) ≡ []
     none zero = refl
     none (suc n) = refl
-numbers_pop (i ∷ is) after e =
-    let long : length (i ∷ is) - 1 ≡ length is = omega arith in
-    ap numbers (e ∙ ap (λ n. take n (i ∷ is)) long) ∙ pop_from [] (length is) (i ∷ is) refl
+numbers_pop (s ∷ ss) after e =
+    let long : length (s ∷ ss) - 1 ≡ length ss = omega arith in
+    ap scope_numbers (e ∙ ap (λ n. take n (s ∷ ss)) long) ∙ pop_from [] (length ss) (s ∷ ss) refl
 
 -- The scopes in a node are its own and those around it.
-pub numbers_opened : (before after : List NodeId) (i : NodeId) (n : ℕ) (ns : List ℕ) → numbers before ≡ ns → i.0 ≡ n → after ≡ before ++ i ∷ [] → numbers after ≡ n ∷ ns
-numbers_opened before after i n ns kept is put = ap numbers put ∙ numbers_push before i ∙ ap (λ m. m ∷ numbers before) is ∙ ap (λ ms. n ∷ ms) kept
+pub numbers_opened : (before after : List Scope) (s : Scope) (n : ℕ) (ns : List ℕ) → scope_numbers before ≡ ns → s.number.0 ≡ n → after ≡ before ++ s ∷ [] → scope_numbers after ≡ n ∷ ns
+numbers_opened before after s n ns kept is put = ap scope_numbers put ∙ numbers_push before s ∙ ap (λ m. m ∷ scope_numbers before) is ∙ ap (λ ms. n ∷ ms) kept
 
 -- The scopes are as before once the innermost is taken off.
-pub numbers_closed : (before after : List NodeId) (n m : ℕ) (ns : List ℕ) → numbers before ≡ m ∷ ns → n ≡ length before → after ≡ take (n - 1) before → numbers after ≡ ns
+pub numbers_closed : (before after : List Scope) (n m : ℕ) (ns : List ℕ) → scope_numbers before ≡ m ∷ ns → n ≡ length before → after ≡ take (n - 1) before → scope_numbers after ≡ ns
 numbers_closed before after n m ns are long rest = numbers_pop before after (rest ∙ ap (λ k. take (k - 1) before) long) ∙ ap outer are

@@ -56,3 +56,7 @@ fields_as old ps qs rs k r s ls ks parts rows same levels =
 -- two parts of the names, one behind the other
 pub both : (old one two a b : List Owned) → one ≡ old ++ a → two ≡ one ++ b → two ≡ old ++ (a ++ b)
 both old one two a b first second = second ∙ ap (λ v. v ++ b) first ∙ append_assoc old a b
+
+-- the same, where what is done in between leaves the names as they are
+pub both_apart : (old one still two a b : List Owned) → one ≡ old ++ a → still ≡ one → two ≡ still ++ b → two ≡ old ++ (a ++ b)
+both_apart old one still two a b first same second = both old one two a b first (second ∙ ap (λ v. v ++ b) same)

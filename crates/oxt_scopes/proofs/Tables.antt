@@ -171,3 +171,7 @@ same_level s n ds e number names blocks enum_name ls = λ j. record {
   find = λ k t. if names k t j then Some (number j) else beside (enum_name j) ls t;
   block = λ d t. blocks d t j;
 }
+
+-- the scope that declares the same
+pub level_as : (s : Scope) (n : ℕ) (ds es : List Declared) (e : Option (List ℕ)) → ds ≡ es → ((ls : List Level) → level_of s ls ≡ level n ds e ls) → (ls : List Level) → level_of s ls ≡ level n es e ls
+level_as s n ds es e same is ls = is ls ∙ ap (λ xs. level n xs e ls) same

@@ -2,6 +2,7 @@ pub mod Nestings
 pub mod OwnedViews
 pub mod Owners
 pub mod Scopes
+pub mod Signs
 pub mod Stack
 pub mod Standings
 pub mod Views

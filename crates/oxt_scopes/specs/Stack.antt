@@ -42,3 +42,7 @@ level_of s ls = record {
 -- the innermost first
 abbrev pub levels : List Scope → List Level
 levels ss = fold (λ ls s. level_of s ls ∷ ls) [] ss
+
+-- their numbers, the innermost first
+abbrev pub scope_numbers : List Scope → List ℕ
+scope_numbers ss = fold (λ ns s. s.number.0 ∷ ns) [] ss

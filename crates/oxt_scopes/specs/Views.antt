@@ -1,6 +1,5 @@
 -- Scopes as contracts see them.
-use Rattle.std.specs.Prelude.{ℕ, List, [], ◌∷◌, map, fold}
-use Rattle.oxt_tree.specs.declared.ids.NodeId.{NodeId}
+use Rattle.std.specs.Prelude.{List, map}
 use Rattle.oxt_declares.specs.Declarations.{declared_views}
 use Rattle.oxt_scopes.specs.Stack.{number_at}
 use Rattle.oxt_scopes.specs.Nestings.{Opened}
@@ -11,7 +10,3 @@ opened_view s = record { number = s.number.0; parent = number_at s.parent; role 
 
 abbrev pub opened_views : List OpenedScope → List Opened
 opened_views ss = map opened_view ss
-
--- the numbers of the scopes around a place, the innermost first
-abbrev pub numbers : List NodeId → List ℕ
-numbers is = fold (λ ns i. i.0 ∷ ns) [] is

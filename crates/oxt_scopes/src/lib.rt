@@ -7,4 +7,5 @@ pub mod scope;
 pub mod scopes;
 pub mod standing;
 pub mod usage;
+pub mod walk;
 pub mod way;

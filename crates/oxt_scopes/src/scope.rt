@@ -6,7 +6,7 @@ ghost use Rattle.oxt_tree.specs.View.{doc_or_nil, docs_in, part_doc};
 ghost use Rattle.oxt_declares.specs.Declarations.{declared_view, declared_views, has, is_seen, shows};
 ghost use Rattle.oxt_declares.specs.Declares.{each_found};
 ghost use Rattle.oxt_scopes.specs.Owners.{enum_of, opened, scope_number};
-ghost use Rattle.oxt_scopes.specs.Scopes.{Level, block_in, has_name, is_block_of, number_of};
+ghost use Rattle.oxt_scopes.specs.Scopes.{Level, block_in, has_name, is_block_of, level, number_of};
 ghost use Rattle.oxt_scopes.specs.Stack.{block_at, level_of, name_in, seen_at, shows_seen};
 ghost use Rattle.oxt_declares.specs.declared.declaration.Sight.{Sight as Looks};
 
@@ -43,17 +43,33 @@ pub struct Scope<'a> {
 }
 
 /// The scope that a node of that role opens.
-#[tactic(auto, using(crate::proofs::Tables::same_level))]
 pub fn scope_of<'a>(alloc: Global, role: Role, node: &'a Node) -> Result<Scope<'a>, OutOfMemory>
     ensures { IfOk result (λ s. (ls : List Level) → level_of s ls
         ≡ opened role node.now.kind node.now.id.0 (docs_in node.now.parts.items) (each_found (docs_in node.now.parts.items)) ls) }
 {
     let mut declarations = Vec::new(alloc);
     push_declared(alloc, role, node, &mut declarations)?;
+    let scope = scope_by(alloc, role, node, declarations.as_slice())?;
+    Ok(scope)
+}
+
+/// The scope that a node of that role opens, in which these are declared.
+#[tactic(auto, using(crate::proofs::Tables::same_level))]
+pub(crate) fn scope_by<'a>(
+    alloc: Global,
+    role: Role,
+    node: &'a Node,
+    declarations: &[Declaration<'a>],
+) -> Result<Scope<'a>, OutOfMemory>
+    ensures number { IfOk result (λ s. s.number.0 ≡ scope_number role node.now.kind node.now.id.0 (docs_in node.now.parts.items)) }
+    ensures level { IfOk result (λ s. (ls : List Level) → level_of s ls
+        ≡ level (scope_number role node.now.kind node.now.id.0 (docs_in node.now.parts.items)) (declared_views declarations.now)
+        (enum_of role node.now.kind (docs_in node.now.parts.items)) ls) }
+{
     Ok(Scope {
         number: scope_number(role, node),
-        names: names_of(alloc, declarations.as_slice())?,
-        blocks: blocks_of(alloc, declarations.as_slice())?,
+        names: names_of(alloc, declarations)?,
+        blocks: blocks_of(alloc, declarations)?,
         enum_name: enum_of(role, node),
     })
 }

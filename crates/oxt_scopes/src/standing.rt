@@ -1,17 +1,19 @@
 //! Whether what a declaration says is there at run time.
-ghost use Rattle.std.specs.Prelude.{◌≡◌, codes};
+ghost use Rattle.std.specs.Prelude.{◌≡◌, codes, false};
 ghost use Rattle.std.specs.List.{list_any};
 ghost use Rattle.oxt_grammar.specs.Places.{same_kind};
 ghost use Rattle.oxt_tree.specs.Fields.{is_kind, is_set, is_text, named};
 ghost use Rattle.oxt_tree.specs.Syntax.{erased_kinds, is_erased_kind, lacks_body};
 ghost use Rattle.oxt_tree.specs.View.{docs_in};
 ghost use Rattle.oxt_declares.specs.TypesAlone.{is_of_types};
+ghost use Rattle.oxt_scopes.specs.Signs.{StaysEmitted, is_asked, is_sign};
 ghost use Rattle.oxt_scopes.specs.Standings.{around_of, declares_alone, emission_in, is_erased_alone, is_erased_by, joined, keeps_decorators, of_program, own_emission, standing_in};
 
 use oxt_declares::role::Role;
 use oxt_declares::role_of::role_of;
 use oxt_declares::types_alone::is_of_types;
 use oxt_grammar::field::Field;
+use oxt_grammar::holds::Row;
 use oxt_grammar::kind::Kind;
 use oxt_tree::tree::Node;
 
@@ -98,6 +100,9 @@ fn joined(around: Emission, own: Emission) -> Emission
 fn own_emission(legacy: bool, node: &Node) -> Emission
     ensures { result ≡ own_emission legacy node.now.kind (docs_in node.now.parts.items) }
 {
+    if !may_be_erased(node.kind) {
+        return Emission::Emitted;
+    }
     if keeps_decorators(legacy, node) {
         return Emission::Declared;
     }
@@ -115,6 +120,39 @@ fn keeps_decorators(legacy: bool, node: &Node) -> bool
     ensures { result ≡ keeps_decorators legacy node.now.kind (docs_in node.now.parts.items) }
 {
     legacy && (node.kind.is(Kind::PropertyDefinition) && node.flag(Field::Declare))
+}
+
+/// Whether a node of the kind may be erased by itself. Most kinds never are, which one look at their rows tells.
+fn may_be_erased(kind: Kind) -> bool
+    ensures { result ≡ false → StaysEmitted kind }
+{
+    is_erased_kind(kind) || (is_asked(role_of(kind)) || has_sign(kind.rows()))
+}
+
+/// Whether nodes of the role are asked what they hold.
+fn is_asked(role: Role) -> bool
+    ensures { result ≡ is_asked role }
+{
+    match role {
+        Role::Namespace => true,
+        Role::Program => true,
+        _ => false,
+    }
+}
+
+/// Whether one of the rows is of a field by which nodes are erased.
+fn has_sign(rows: &[Row]) -> bool
+    ensures { result ≡ list_any (λ row. is_sign row.field) rows.now }
+{
+    rows.iter().any(|row| is_sign(row))
+}
+
+/// Whether the field of the row may say that its node is erased.
+fn is_sign(row: &Row) -> bool
+    ensures { result ≡ is_sign row.now.field }
+{
+    row.is(Field::Declare)
+        || (row.is(Field::ImportKind) || (row.is(Field::ExportKind) || row.is(Field::Value)))
 }
 
 /// Whether it is a declaration that says `declare`, or such a field.

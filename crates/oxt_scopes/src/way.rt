@@ -124,6 +124,7 @@ impl Reading {
     }
 
     /// How the field of that row is read; none where it is not.
+    #[inline(always)]
     pub fn way_of(self, row: &Row) -> Option<Way>
         ensures { result ≡ way_of self (key_of row.now.field) }
     {
