@@ -13,6 +13,7 @@ use oxt_resolve::resolve::resolve;
 use oxt_scoping::scoping::Scoping;
 use oxt_traverse::both::Both;
 use oxt_traverse::hook::Hook;
+use oxt_traverse::pass::Pass;
 use oxt_traverse::traverse::Traverse;
 use oxt_tree::ids::{NodeId, OutOfMemory};
 use oxt_tree::tree::{Node, Part, Program};
@@ -184,7 +185,7 @@ impl Probe {
     }
 }
 
-impl Traverse for Probe {
+impl Pass for Probe {
     fn at_node(
         &mut self,
         hook: Hook,

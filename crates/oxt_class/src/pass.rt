@@ -43,7 +43,7 @@ use crate::properties::add_parameter_property_fields;
 use oxt_ctx::context::TraverseCtx;
 use oxt_options::TransformOptions;
 use oxt_traverse::hook::Hook;
-use oxt_traverse::traverse::Traverse;
+use oxt_traverse::pass::Pass;
 use oxt_tree::ids::OutOfMemory;
 use oxt_tree::tree::{Node, Part};
 
@@ -103,7 +103,7 @@ impl ClassFields {
     }
 }
 
-impl Traverse for ClassFields {
+impl Pass for ClassFields {
     fn at_node(
         &mut self,
         hook: Hook,

@@ -13,7 +13,7 @@ use crate::statement::{holds_class, lower_statement, statement_of};
 use oxt_ctx::context::TraverseCtx;
 use oxt_options::options::DecoratorOptions;
 use oxt_traverse::hook::Hook;
-use oxt_traverse::traverse::Traverse;
+use oxt_traverse::pass::Pass;
 use oxt_tree::ids::OutOfMemory;
 use oxt_tree::tree::{Node, Part};
 use std::alloc::Global;
@@ -160,7 +160,7 @@ impl LegacyDecorator {
     }
 }
 
-impl Traverse for LegacyDecorator {
+impl Pass for LegacyDecorator {
     fn at_node(
         &mut self,
         hook: Hook,

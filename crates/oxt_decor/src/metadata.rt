@@ -38,7 +38,7 @@ use oxt_metadata::typing::{design_of, returned_by};
 use oxt_options::options::DecoratorOptions;
 use oxt_stores::sparse::SparseStack;
 use oxt_traverse::hook::Hook;
-use oxt_traverse::traverse::Traverse;
+use oxt_traverse::pass::Pass;
 use oxt_tree::ids::OutOfMemory;
 use oxt_tree::name::Name;
 use oxt_tree::tree::{Node, Part};
@@ -138,7 +138,7 @@ impl LegacyDecoratorMetadata {
     }
 }
 
-impl Traverse for LegacyDecoratorMetadata {
+impl Pass for LegacyDecoratorMetadata {
     fn at_node(
         &mut self,
         hook: Hook,

@@ -26,7 +26,7 @@ use crate::legacy::LegacyDecorator;
 use oxt_ctx::context::TraverseCtx;
 use oxt_options::options::DecoratorOptions;
 use oxt_traverse::hook::Hook;
-use oxt_traverse::traverse::Traverse;
+use oxt_traverse::pass::Pass;
 use oxt_tree::ids::OutOfMemory;
 use oxt_tree::tree::{Node, Part};
 use std::alloc::Global;
@@ -69,7 +69,7 @@ impl Decorator {
     }
 }
 
-impl Traverse for Decorator {
+impl Pass for Decorator {
     fn at_node(
         &mut self,
         hook: Hook,

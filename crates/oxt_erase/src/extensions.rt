@@ -23,7 +23,7 @@ use oxt_grammar::field::Field;
 use oxt_grammar::kind::Kind;
 use oxt_options::{RewriteExtensionsMode, TypeScriptOptions};
 use oxt_traverse::hook::Hook;
-use oxt_traverse::traverse::Traverse;
+use oxt_traverse::pass::Pass;
 use oxt_tree::ids::OutOfMemory;
 use oxt_tree::tree::{Node, Part};
 use std::alloc::Global;
@@ -124,7 +124,7 @@ impl TypeScriptRewriteExtensions {
     }
 }
 
-impl Traverse for TypeScriptRewriteExtensions {
+impl Pass for TypeScriptRewriteExtensions {
     fn at_node(
         &mut self,
         hook: Hook,

@@ -27,7 +27,7 @@ use oxt_grammar::kind::Kind;
 use oxt_names::flags::ReferenceFlags;
 use oxt_options::Module;
 use oxt_traverse::hook::Hook;
-use oxt_traverse::traverse::Traverse;
+use oxt_traverse::pass::Pass;
 use oxt_tree::ids::OutOfMemory;
 use oxt_tree::name::Name;
 use oxt_tree::tree::{Node, Part};
@@ -56,7 +56,7 @@ impl TypeScriptModule {
     }
 }
 
-impl Traverse for TypeScriptModule {
+impl Pass for TypeScriptModule {
     fn at_node(
         &mut self,
         hook: Hook,

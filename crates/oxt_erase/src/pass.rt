@@ -25,7 +25,7 @@ use crate::opening::{open_target, open_wrapper};
 use crate::statements::{drop_elements, drop_erased};
 use oxt_ctx::context::TraverseCtx;
 use oxt_traverse::hook::Hook;
-use oxt_traverse::traverse::Traverse;
+use oxt_traverse::pass::Pass;
 use oxt_tree::ids::OutOfMemory;
 use oxt_tree::tree::{Node, Part};
 
@@ -42,7 +42,7 @@ impl TypeScriptAnnotations {
     }
 }
 
-impl Traverse for TypeScriptAnnotations {
+impl Pass for TypeScriptAnnotations {
     fn at_node(
         &mut self,
         hook: Hook,

@@ -31,7 +31,7 @@ use oxt_ctx::context::TraverseCtx;
 use oxt_grammar::field::Field;
 use oxt_options::TypeScriptOptions;
 use oxt_traverse::hook::Hook;
-use oxt_traverse::traverse::Traverse;
+use oxt_traverse::pass::Pass;
 use oxt_tree::fields::place_of;
 use oxt_tree::ids::OutOfMemory;
 use oxt_tree::tree::{Node, Part};
@@ -50,7 +50,7 @@ impl TypeScriptNamespace {
     }
 }
 
-impl Traverse for TypeScriptNamespace {
+impl Pass for TypeScriptNamespace {
     fn at_node(
         &mut self,
         hook: Hook,

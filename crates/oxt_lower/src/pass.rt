@@ -25,7 +25,7 @@ use crate::inline::inline_constant;
 use crate::statement::{drop_blocks, lower_statement};
 use oxt_ctx::context::TraverseCtx;
 use oxt_traverse::hook::Hook;
-use oxt_traverse::traverse::Traverse;
+use oxt_traverse::pass::Pass;
 use oxt_tree::ids::OutOfMemory;
 use oxt_tree::tree::{Node, Part};
 
@@ -59,7 +59,7 @@ impl TypeScriptEnum {
     }
 }
 
-impl Traverse for TypeScriptEnum {
+impl Pass for TypeScriptEnum {
     fn at_node(
         &mut self,
         hook: Hook,

@@ -15,7 +15,7 @@ use oxt_options::TransformOptions;
 use oxt_traverse::both::Both;
 use oxt_traverse::dispatch::{run_at_node, run_at_statements};
 use oxt_traverse::hook::Hook;
-use oxt_traverse::traverse::Traverse;
+use oxt_traverse::pass::Pass;
 use oxt_tree::ids::OutOfMemory;
 use oxt_tree::tree::{Node, Part};
 use oxt_walk::walk::walk_program;
@@ -116,7 +116,7 @@ impl TypeScript {
     }
 }
 
-impl Traverse for TypeScript {
+impl Pass for TypeScript {
     fn at_node(
         &mut self,
         hook: Hook,

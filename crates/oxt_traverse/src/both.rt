@@ -2,6 +2,7 @@
 
 use crate::dispatch::{run_at_node, run_at_statements};
 use crate::hook::Hook;
+use crate::pass::Pass;
 use crate::traverse::Traverse;
 use oxt_ctx::context::TraverseCtx;
 use oxt_tree::ids::OutOfMemory;
@@ -17,7 +18,7 @@ pub struct Both<A, B> {
     pub second: B,
 }
 
-impl<A: Traverse, B: Traverse> Traverse for Both<A, B> {
+impl<A: Traverse, B: Traverse> Pass for Both<A, B> {
     ghost log = { λ both. A.log both.first };
 
     ghost trace = { A.trace };

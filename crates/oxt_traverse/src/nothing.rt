@@ -1,7 +1,7 @@
 //! A pass that does nothing.
 
 use crate::hook::Hook;
-use crate::traverse::Traverse;
+use crate::pass::Pass;
 use oxt_ctx::context::TraverseCtx;
 use oxt_tree::ids::OutOfMemory;
 use oxt_tree::tree::{Node, Part};
@@ -10,7 +10,7 @@ use oxt_tree::tree::{Node, Part};
 #[derive(Clone, Copy, Debug)]
 pub struct Nothing;
 
-impl Traverse for Nothing {
+impl Pass for Nothing {
     ghost use Rattle.std.specs.Prelude.{true};
 
     ghost watches = { true };

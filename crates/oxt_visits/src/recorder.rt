@@ -2,7 +2,7 @@
 
 use oxt_ctx::context::TraverseCtx;
 use oxt_traverse::hook::Hook;
-use oxt_traverse::traverse::Traverse;
+use oxt_traverse::pass::Pass;
 use oxt_tree::ids::OutOfMemory;
 use oxt_tree::tree::{Node, Part};
 use std::alloc::Global;
@@ -49,7 +49,7 @@ impl Recorder {
     }
 }
 
-impl Traverse for Recorder {
+impl Pass for Recorder {
     fn at_node(
         &mut self,
         hook: Hook,

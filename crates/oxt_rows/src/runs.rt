@@ -14,7 +14,7 @@ use oxt_tree::tree::Node;
 use std::alloc::Global;
 
 /// The run, and the settings.
-pub fn print_transform(alloc: Global, table: &Table, lines: &mut Lines) -> Result<(), Stopped> {
+pub fn print_runs(alloc: Global, table: &Table, lines: &mut Lines) -> Result<(), Stopped> {
     sure(alloc, table, lines)?;
     settings(alloc, table, lines)
 }
