@@ -1,4 +1,5 @@
 pub mod Alike
+pub mod Enumless
 pub mod Folds
 pub mod Gatherings
 pub mod Holding

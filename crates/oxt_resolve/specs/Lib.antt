@@ -1,3 +1,4 @@
+pub mod Enumless
 pub mod Flags
 pub mod Gathered
 pub mod Laws

@@ -1,6 +1,8 @@
 //! The bodies of the enums of the table, and the constants of their members.
 ghost use Rattle.std.specs.Prelude.{◌≡◌, ◌<◌, IfSome, OnOk, Some, length, option_map};
+ghost use Rattle.std.specs.List.{list_any};
 ghost use Rattle.oxt_declares.specs.Declarations.{declared_view};
+ghost use Rattle.oxt_resolve.specs.Enumless.{declares_enum, is_of_enum};
 ghost use Rattle.oxt_scopes.specs.Scopes.{number_of};
 ghost use Rattle.oxt_scopes.specs.Views.{opened_view, opened_views};
 ghost use Rattle.oxt_names.specs.Constant.{constant_view};
@@ -27,6 +29,40 @@ pub enum EnumPart {
     Member,
     /// Neither.
     Neither,
+}
+
+/// Whether one of the scopes declares a block or a member of an enum. Where none does, there is nothing to tell.
+pub fn has_enums(scopes: &[OpenedScope]) -> bool
+    ensures { result ≡ list_any declares_enum scopes.now }
+{
+    scopes.iter().any(|scope| declares_enum(scope))
+}
+
+/// Whether one of the declarations of the scope is of an enum.
+fn declares_enum(scope: &OpenedScope) -> bool
+    ensures { result ≡ declares_enum scope.now }
+{
+    any_of_enum(scope.declarations.as_slice())
+}
+
+/// Whether one of the declarations is of an enum.
+fn any_of_enum(declarations: &[Declaration]) -> bool
+    ensures { result ≡ list_any (λ declaration. is_of_enum declaration.sort) declarations.now }
+{
+    declarations
+        .iter()
+        .any(|declaration| is_of_enum(declaration.sort))
+}
+
+/// Whether what is so declared is of an enum.
+fn is_of_enum(sort: Sort) -> bool
+    ensures { result ≡ is_of_enum sort }
+{
+    match part_of(sort) {
+        EnumPart::Block => true,
+        EnumPart::Member => true,
+        EnumPart::Neither => false,
+    }
 }
 
 /// Tells the bodies of the enums that the scopes declare, and the constants of their members.

@@ -3,6 +3,7 @@
 
 mod enums;
 mod flags;
+mod gathered;
 pub mod laws;
 mod marks;
 mod opening;

@@ -2,15 +2,15 @@
 ghost use Rattle.std.specs.Prelude.{◌≡◌, ◌==◌, ◌++◌, IfOk, OnOk, Some, ℕ, if◌then◌else◌, option_map};
 ghost use Rattle.oxt_declares.specs.RoleOf.{role_of};
 ghost use Rattle.oxt_tree.specs.Fields.{first, text_in};
-ghost use Rattle.oxt_tree.specs.View.{docs_in, node_doc, part_doc};
-ghost use Rattle.oxt_resolve.specs.Spellings.{each_spellings, name_in, own_spelling, spelled, spelled_at, spelling_views, spellings, spellings_of};
+ghost use Rattle.oxt_tree.specs.View.{docs_in};
+ghost use Rattle.oxt_resolve.specs.Spellings.{name_in, own_spelling, spelled, spelled_at, spelling_views};
 
 use indexmap::IndexMap;
 use oxt_declares::declares::text_of;
 use oxt_declares::role::Role;
 use oxt_declares::role_of::role_of;
 use oxt_tree::ids::{NodeId, OutOfMemory};
-use oxt_tree::tree::{Node, Part};
+use oxt_tree::tree::Node;
 use std::alloc::Global;
 
 /// A name that is used.
@@ -29,18 +29,9 @@ pub struct Spellings<'a> {
 }
 
 impl<'a> Spellings<'a> {
-    /// Those of a tree.
-    pub fn of_tree(alloc: Global, program: &'a Node) -> Result<Spellings<'a>, OutOfMemory>
-        ensures { IfOk result (λ s. name_in s ≡ spellings_of (node_doc program.now)) }
-    {
-        let mut names = Vec::new(alloc);
-        push_node(program, &mut names)?;
-        Spellings::new(alloc, names.as_slice())
-    }
-
     /// The table of these names.
     #[tactic(auto, using(crate::proofs::Gatherings::name_froms))]
-    fn new(alloc: Global, names: &[Spelling<'a>]) -> Result<Spellings<'a>, OutOfMemory>
+    pub fn new(alloc: Global, names: &[Spelling<'a>]) -> Result<Spellings<'a>, OutOfMemory>
         ensures { IfOk result (λ s. name_in s ≡ spelled (spelling_views names.now)) }
     {
         let mut table = Spellings {
@@ -70,45 +61,11 @@ impl<'a> Spellings<'a> {
     }
 }
 
-/// Appends the names in the node.
-#[cycle(spellings)]
-fn push_node<'a>(node: &'a Node, out: &mut Vec<Spelling<'a>>) -> Result<(), OutOfMemory>
-    ensures { OnOk result (spelling_views out.new.items
-        ≡ spelling_views out.old.items ++ spellings (node_doc node.now)) }
-{
-    let _span = node.span;
-    push_own(node, out)?;
-    push_each(&node.parts, out)
-}
-
-/// Appends the names in the part.
-#[cycle(spellings)]
-fn push_part<'a>(part: &'a Part, out: &mut Vec<Spelling<'a>>) -> Result<(), OutOfMemory>
-    ensures { OnOk result (spelling_views out.new.items
-        ≡ spelling_views out.old.items ++ spellings (part_doc part.now)) }
-{
-    match part {
-        Part::Node(node) => push_node(node, out),
-        Part::List(parts) => push_each(parts, out),
-        _ => Ok(()),
-    }
-}
-
-/// Appends the names in the parts.
-#[cycle(spellings)]
-#[tactic(auto, using(crate::proofs::Walks::spelling_steps))]
-fn push_each<'a>(parts: &'a [Part], out: &mut Vec<Spelling<'a>>) -> Result<(), OutOfMemory>
-    ensures { OnOk result (spelling_views out.new.items
-        ≡ spelling_views out.old.items ++ each_spellings (docs_in parts.now)) }
-{
-    for part in parts {
-        push_part(part, out)?;
-    }
-    Ok(())
-}
-
 /// Appends the node, if it is a name that is used.
-fn push_own<'a>(node: &'a Node, out: &mut Vec<Spelling<'a>>) -> Result<(), OutOfMemory>
+pub(crate) fn push_own_spelling<'a>(
+    node: &'a Node,
+    out: &mut Vec<Spelling<'a>>,
+) -> Result<(), OutOfMemory>
     ensures { OnOk result (spelling_views out.new.items
         ≡ spelling_views out.old.items ++ own_spelling (role_of node.now.kind) node.now.id.0 (docs_in node.now.parts.items)) }
 {

@@ -1,4 +1,4 @@
--- The marks are those of the tree.
+-- The marks are those of the table.
 use Rattle.std.proofs.Common.{◌≡◌, IfOk, subst}
 use Rattle.oxt_resolve.specs.Resolved.{declared_by}
 use Rattle.oxt_scopes.specs.Views.{opened_views}

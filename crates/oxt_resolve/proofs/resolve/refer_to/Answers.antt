@@ -1,4 +1,4 @@
--- The spellings are those of the tree.
+-- The spellings are those of the names.
 use Rattle.std.proofs.Common.{◌≡◌, OnOk, subst}
 use Rattle.oxt_resolve.specs.Resolved.{all_used}
 use Rattle.oxt_scopes.specs.OwnedViews.{owned_views}

@@ -1,8 +1,0 @@
--- The names so far stand in front of those of what is left.
-use Rattle.std.proofs.Common.{◌≡◌, ◌++◌, drop}
-use Rattle.oxt_resolve.specs.Spellings.{each_spellings, spelling_views}
-use Rattle.oxt_tree.specs.View.{docs_in}
-use Rattle.oxt_resolve.proofs.spellings.+spellings.Given as goal
-
-abbrev pub invariant-push_each-loop-part : goal.invariant-push_each-loop-part
-invariant-push_each-loop-part l = spelling_views l.initial.out.items ++ each_spellings (docs_in l.parts) ≡ spelling_views l.out.items ++ each_spellings (docs_in (drop l.part-index l.parts))
