@@ -62,18 +62,18 @@ class Spent:
     def look_at(self, process):
         words = (process / "cmdline").read_bytes().decode(errors="replace").split("\0")
         fields = fields_of(process)
-        task = self.task(words, int(fields[3]))
+        task = self.task(words, os.readlink(process / "cwd"), int(fields[3]))
         if task is not None:
             self.by_process[process.name, fields[19]] = task, seconds_in(fields)
 
-    def task(self, words, session):
-        """The crate and what is done, if the process belongs to the run; programs are run in sessions of their own."""
+    def task(self, words, folder, session):
+        """The crate and what is done, if the process belongs to the run; programs are run in sessions of their own, and edits in folders of their own."""
         if f"/rt-run-{self.runner}-" in words[0]:
             return words[0].rsplit("/", 1)[1].partition(".")[0], PROGRAMS
         if session != os.getsid(0) or not words[0].endswith("/rattle") or "--crate-name" not in words:
             return None
         crate = words[words.index("--crate-name") + 1]
-        if any("/rt-edits-" in word for word in words):
+        if any("/rt-edit" in place for place in [folder, *words]):
             return crate, EDITS
         return crate, PROGRAMS if "--backend" in words else PROOF
 
