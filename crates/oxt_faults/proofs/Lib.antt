@@ -4,3 +4,4 @@ pub mod Frees
 pub mod Enough
 pub mod Leasts
 pub mod Symbols
+pub mod Unmarked

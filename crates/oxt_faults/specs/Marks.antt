@@ -1,5 +1,6 @@
 -- What the program notes of each symbol, by their numbers, before it looks at the names.
 use Rattle.std.specs.Prelude.{ℕ, List, map, Bool, false, if◌then◌else◌, Option, None, Some, option_map, slice_get, slice_index_or}
+use Rattle.std.specs.List.{list_any}
 use Rattle.oxt_faults.specs.Captured.{Capture, emits, is_captured, value_meant}
 use Rattle.oxt_scoping.specs.Entries.{SymbolData}
 use Rattle.oxt_scoping.specs.Scoped.{Scoped}
@@ -15,6 +16,10 @@ emitting_symbols s = map (λ y. emits y.declarations) s.symbols
 -- of each symbol whether it is captured, where the declarations with these names are left out
 abbrev pub captured_symbols : Scoped → (ℕ → Bool) → List Bool
 captured_symbols s ls = map (is_captured s ls) s.symbols
+
+-- a symbol is marked
+abbrev pub has_mark : List Bool → Bool
+has_mark bs = list_any (λ b. b) bs
 
 -- what is noted of the symbol
 abbrev pub mark_at : List Bool → SymbolId → Bool

@@ -3,7 +3,7 @@ ghost use Rattle.std.specs.Prelude.{◌≡◌, IfOk, Some, option_map};
 ghost use Rattle.oxt_faults.specs.AllCaptured.{all_captured, all_marked};
 ghost use Rattle.oxt_faults.specs.Captured.{Capture, capture_view, value_meant};
 ghost use Rattle.oxt_faults.specs.Earliest.{earlier};
-ghost use Rattle.oxt_faults.specs.Marks.{captured_symbols, marked, marked_as, marked_at};
+ghost use Rattle.oxt_faults.specs.Marks.{captured_symbols, has_mark, marked, marked_as, marked_at};
 ghost use Rattle.oxt_fields.specs.Rules.{rules_view};
 ghost use Rattle.oxt_options.specs.Facts.{is_in};
 ghost use Rattle.oxt_search.specs.First.{first_in};
@@ -54,7 +54,19 @@ pub fn first_captured<'a>(
         ≡ all_captured (rules_view rules.entry) scoping.now (is_in left_out.now) (node_doc program.now)) }
 {
     let marks = captured_symbols(alloc, scoping, left_out)?;
-    Ok(first_by_marks(rules, program, scoping, marks.as_slice()))
+    let marked = marks.as_slice();
+    if has_mark(marked) {
+        Ok(first_by_marks(rules, program, scoping, marked))
+    } else {
+        Ok(None)
+    }
+}
+
+/// Whether a symbol is marked. Where none is, no name means one.
+fn has_mark(marks: &[bool]) -> bool
+    ensures { result ≡ has_mark marks.now }
+{
+    marks.iter().any(|mark| *mark)
 }
 
 /// The first name in the program that means a marked symbol: one that is used as a value, or that metadata writes.
