@@ -85,9 +85,10 @@ class Spent:
 
 
 def gate_words():
-    """The words that run the gate from nothing: a kit whose gate takes what earlier runs proved is told not to."""
+    """The words that run the gate from nothing, with as many checks at once as `.ci/run` has: a kit whose gate takes what earlier runs
+    proved is told not to."""
     told = subprocess.run(["rt", "help"], stdout=subprocess.PIPE, stderr=subprocess.STDOUT, text=True, check=False).stdout
-    return ["rt", "ci", "--anew"] if "--anew" in told else ["rt", "ci"]
+    return ["bash", "-c", f"source .ci/jobs.sh; exec rt ci{' --anew' if '--anew' in told else ''}"]
 
 
 def run_gate(clone):
