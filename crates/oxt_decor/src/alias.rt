@@ -82,14 +82,41 @@ impl ClassReferenceChanger {
         ensures depth { OnOk result
             (length (frames ctx.new.declarations) ≡ length (frames ctx.old.declarations)) }
     {
-        let names = used_names(ctx.memory(), body)?;
-        if !is_any_use(&names, self.class.symbol_id, &ctx.scoping) {
-            return Ok(None);
+        if self.find_uses(body, ctx)? {
+            let alias = self.rename_uses(body, ctx)?;
+            Ok(Some(alias))
+        } else {
+            Ok(None)
         }
-        self.note_uses(&names, &ctx.scoping)?;
+    }
+
+    /// Notes the uses of the class in its body; whether there are any.
+    fn find_uses(&mut self, body: &mut Node, ctx: &TraverseCtx) -> Result<bool, OutOfMemory>
+        ensures { IfOk result (λ is_used. is_used
+            ≡ names_class ctx.now.scoping self.old.class.symbol_id (node_doc body.old)) }
+    {
+        let names = used_names(ctx.memory(), body)?;
+        let is_used = is_any_use(&names, self.class.symbol_id, &ctx.scoping);
+        if is_used {
+            self.note_uses(&names, &ctx.scoping)?;
+        }
+        Ok(is_used)
+    }
+
+    /// Puts a name that is made for the class, and declared in the innermost list, in the place of the uses that are noted.
+    fn rename_uses(
+        &mut self,
+        body: &mut Node,
+        ctx: &mut TraverseCtx,
+    ) -> Result<BoundIdentifier, OutOfMemory>
+        requires { 0 < length (frames ctx.old.declarations) }
+        ensures around { OnOk result (ctx.new.ancestors ≡ ctx.old.ancestors) }
+        ensures depth { OnOk result
+            (length (frames ctx.new.declarations) ≡ length (frames ctx.old.declarations)) }
+    {
         let alias = create_uid_var(self.class.name.as_str(), ctx)?;
         self.put_alias(&alias.name, body, ctx)?;
-        Ok(Some(alias))
+        Ok(alias)
     }
 
     /// Notes which of the names are uses of the class.

@@ -149,15 +149,25 @@ fn place_calls(
     ensures depth { OnOk result
         (length (frames ctx.new.declarations) ≡ length (frames ctx.old.declarations)) }
 {
-    if frame.calls.is_empty() || !frame.calls_inside {
-        return Ok(frame.calls);
+    let (calls, are_inside) = frame.into_calls();
+    if calls.is_empty() || !are_inside {
+        return Ok(calls);
     }
     let alloc = ctx.memory();
-    let block = static_block(frame.calls, class.id, ctx)?;
+    let block = static_block(calls, class.id, ctx)?;
     if let Some(elements) = elements_mut(class) {
         elements.push(Part::Node(block))?;
     }
     Ok(Vec::new(alloc))
+}
+
+/// What a class that is itself decorated is called by.
+#[derive(Drop)]
+struct OwnNames {
+    /// The name of its variable.
+    name: MaybeBoundIdentifier,
+    /// The name that its body uses.
+    alias: Option<MaybeBoundIdentifier>,
 }
 
 /// Does so for a class that is itself decorated.
@@ -172,14 +182,59 @@ fn leave_decorated(
     ensures depth { OnOk result
         (length (frames ctx.new.declarations) ≡ length (frames ctx.old.declarations)) }
 {
-    let alias = rename_uses(class, &frame, ctx)?;
+    let names = own_names(class, &mut frame, ctx)?;
+    let own = names.call(class, types, ctx)?;
+    leave_called(class, frame, names, own, ctx)
+}
+
+/// The names of the class, of which the alias is put in the place of the uses in its body.
+fn own_names(
+    class: &mut Node,
+    frame: &mut ClassFrame,
+    ctx: &mut TraverseCtx,
+) -> Result<OwnNames, OutOfMemory>
+    requires { 0 < length (frames ctx.old.declarations) }
+    ensures around { OnOk result (ctx.new.ancestors ≡ ctx.old.ancestors) }
+    ensures depth { OnOk result
+        (length (frames ctx.new.declarations) ≡ length (frames ctx.old.declarations)) }
+{
+    let alias = rename_uses(class, frame, ctx)?;
     let name = frame.name_around(ctx)?;
-    let decorators = own_decorators(class, types, ctx)?;
-    let own = own_call(decorators, &name, alias.as_ref(), ctx)?;
-    let number = frame.class;
-    let is_kept_inside = frame.has_static_part;
-    let mut calls = place_calls(class, frame, ctx)?;
-    calls.push(Part::Node(own))?;
+    Ok(OwnNames { name, alias })
+}
+
+impl OwnNames {
+    /// The statement that applies the decorators of the class, which it loses.
+    fn call(
+        &self,
+        class: &mut Node,
+        types: Option<Node>,
+        ctx: &mut TraverseCtx,
+    ) -> Result<Node, OutOfMemory>
+        ensures around { OnOk result (ctx.new.ancestors ≡ ctx.old.ancestors) }
+        ensures depth { OnOk result
+            (length (frames ctx.new.declarations) ≡ length (frames ctx.old.declarations)) }
+    {
+        let decorators = own_decorators(class, types, ctx)?;
+        own_call(decorators, &self.name, self.alias.as_ref(), ctx)
+    }
+}
+
+/// Puts the calls of the elements where they belong, with the class's own call behind them.
+fn leave_called(
+    class: &mut Node,
+    frame: ClassFrame,
+    names: OwnNames,
+    own: Node,
+    ctx: &mut TraverseCtx,
+) -> Result<LeftClass, OutOfMemory>
+    ensures around { OnOk result (ctx.new.ancestors ≡ ctx.old.ancestors) }
+    ensures depth { OnOk result
+        (length (frames ctx.new.declarations) ≡ length (frames ctx.old.declarations)) }
+{
+    let (number, is_kept_inside) = (frame.class, frame.has_static_part);
+    let calls = calls_with(class, frame, own, ctx)?;
+    let OwnNames { name, alias } = names;
     let alias = keep_inside(class, alias, is_kept_inside, ctx)?;
     Ok(LeftClass {
         calls,
@@ -189,6 +244,22 @@ fn leave_decorated(
             alias,
         }),
     })
+}
+
+/// The calls that are to stand behind the class, its own call last.
+fn calls_with(
+    class: &mut Node,
+    frame: ClassFrame,
+    own: Node,
+    ctx: &mut TraverseCtx,
+) -> Result<Vec<Part>, OutOfMemory>
+    ensures around { OnOk result (ctx.new.ancestors ≡ ctx.old.ancestors) }
+    ensures depth { OnOk result
+        (length (frames ctx.new.declarations) ≡ length (frames ctx.old.declarations)) }
+{
+    let mut calls = place_calls(class, frame, ctx)?;
+    calls.push(Part::Node(own))?;
+    Ok(calls)
 }
 
 /// Renames the uses of the class in its body to a name that is made for them: none where its source has no such uses.

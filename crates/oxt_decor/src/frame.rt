@@ -77,6 +77,11 @@ impl ClassFrame {
         }
     }
 
+    /// The calls of the elements, and whether they go into a static block.
+    pub fn into_calls(self) -> (Vec<Part>, bool) {
+        (self.calls, self.calls_inside)
+    }
+
     /// The name that is made to name the class from around it.
     pub fn made_around(
         &mut self,
