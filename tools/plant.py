@@ -23,7 +23,7 @@ MOVED, DROPPED = ("--set-public-class-fields", "--remove-empty-fields"), ("--rem
 ENUMS, NAMESPACES = "crates/oxt_lower/src/pass.rt", "crates/oxt_lower/src/namespace.rt"
 MODULES, EXTENSIONS = "crates/oxt_erase/src/module.rt", "crates/oxt_erase/src/extensions.rt"
 CLASSES, DECORATORS = "crates/oxt_class/src/pass.rt", "crates/oxt_decor/src/legacy.rt"
-METADATA = "crates/oxt_decor/src/metadata.rt"
+METADATA, COMPOSED = "crates/oxt_decor/src/metadata.rt", "crates/oxt_transform/src/typescript.rt"
 LEGACY, TYPED = ("--legacy",), ("--legacy", "--emit-decorator-metadata")
 NOTHING = "{}"
 GONE = "Part::List(Vec::new(*node.parts.allocator()))"
@@ -552,6 +552,11 @@ def planted_metadata(source):
                                     ("_hook: Hook,", "hook: Hook,")), METADATA))
 
 
+def with_open_pattern(source):
+    """The composed pass, which takes one of those apart."""
+    return put(source, ("            module,\n        } = self.modules;", "            module,\n            ..\n        } = self.modules;"))
+
+
 PLANTED = {
     "crates/oxt_erase/src/pass.rt": planted_eraser,
     ENUMS: planted_enums,
@@ -561,6 +566,7 @@ PLANTED = {
     CLASSES: planted_classes,
     DECORATORS: planted_decorators,
     METADATA: planted_metadata,
+    COMPOSED: with_open_pattern,
 }
 
 
