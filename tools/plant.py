@@ -553,7 +553,7 @@ def planted_metadata(source):
 
 
 def with_open_pattern(source):
-    """The composed pass, which takes one of those apart."""
+    """The composed pass, whose pattern over the pass of modules leaves room for the number of its bug."""
     return put(source, ("            module,\n        } = self.modules;", "            module,\n            ..\n        } = self.modules;"))
 
 
