@@ -179,13 +179,13 @@ def name_functions(enum, texts, spec, doc):
 def kind_source(g):
     named = part_names("name_of", list(g.kinds))
     names = name_functions("Kind", {k: k for k in g.kinds}, "name_of", "The text that a tree's JSON has for the kind.")
-    typescript = "\n".join(f"            Kind::{k} => {'true' if g.is_typescript(k) else 'false'}," for k in g.kinds)
+    typescript = "\n".join(f"            Kind::{k} => true," for k in g.kinds if g.is_typescript(k))
     return f"""// {NOTE}
 ghost use Rattle.std.specs.Prelude.{{◌≡◌}};
 ghost use Rattle.oxt_grammar.specs.Kinds.{{{named}, is_typescript_kind}};
 
 /// What a node is: the text of its `type`.
-#[derive(Clone, Copy, Debug, PartialEq, Eq)]
+#[derive(Clone, Copy, PartialEq, Eq)]
 pub enum Kind {{
 {variants(g.kinds)}
 }}
@@ -198,6 +198,7 @@ impl Kind {{
     {{
         match self {{
 {typescript}
+            _ => false,
         }}
     }}
 }}
@@ -205,8 +206,8 @@ impl Kind {{
 
 
 def context_source(g):
-    conditions = "\n".join(f"            Kind::{k} => Condition::{g.condition(k)}," for k in g.kinds)
-    settings = "\n".join(f"            Kind::{k} => Setting::{g.setting(k)}," for k in g.kinds)
+    conditions = "\n".join(f"            Kind::{k} => Condition::{g.condition(k)}," for k in g.kinds if g.condition(k) != "Nothing")
+    settings = "\n".join(f"            Kind::{k} => Setting::{g.setting(k)}," for k in g.kinds if g.setting(k) != "Elsewhere")
     return f"""// {NOTE}
 ghost use Rattle.std.specs.Prelude.{{◌≡◌}};
 ghost use Rattle.oxt_grammar.specs.Context.{{condition_of, setting_of}};
@@ -214,14 +215,14 @@ ghost use Rattle.oxt_grammar.specs.Context.{{condition_of, setting_of}};
 use crate::kind::Kind;
 
 /// A condition on a node beside what its fields hold.
-#[derive(Clone, Copy, Debug, PartialEq, Eq)]
+#[derive(Clone, Copy, PartialEq, Eq)]
 pub enum Condition {{
     Nothing,
 {variants(g.conditions)}
 }}
 
 /// What a node stands directly in, as far as that narrows what its fields hold.
-#[derive(Clone, Copy, Debug, PartialEq, Eq)]
+#[derive(Clone, Copy, PartialEq, Eq)]
 pub enum Setting {{
     Elsewhere,
 {variants(g.settings)}
@@ -234,6 +235,7 @@ impl Kind {{
     {{
         match self {{
 {conditions}
+            _ => Condition::Nothing,
         }}
     }}
 
@@ -243,6 +245,7 @@ impl Kind {{
     {{
         match self {{
 {settings}
+            _ => Setting::Elsewhere,
         }}
     }}
 }}
@@ -250,8 +253,8 @@ impl Kind {{
 
 
 def context_spec(g):
-    conditions = "\n".join(f"condition_of kind.{k} = condition.{g.condition(k)}" for k in g.kinds)
-    settings = "\n".join(f"setting_of kind.{k} = setting.{g.setting(k)}" for k in g.kinds)
+    conditions = "\n".join(f"condition_of kind.{k} = condition.{g.condition(k)}" for k in g.kinds if g.condition(k) != "Nothing")
+    settings = "\n".join(f"setting_of kind.{k} = setting.{g.setting(k)}" for k in g.kinds if g.setting(k) != "Elsewhere")
     return f"""-- {NOTE}
 use Rattle.oxt_grammar.specs.declared.kind.Kind.{{Kind}}
 use Rattle.oxt_grammar.specs.declared.kind.Kind.TheVariants as kind
@@ -263,10 +266,12 @@ use Rattle.oxt_grammar.specs.declared.context.Setting.TheVariants as setting
 -- the condition that a node has to meet beside what its fields hold
 abbrev pub condition_of : Kind → Condition
 {conditions}
+condition_of k = condition.Nothing
 
 -- what the nodes in its fields stand in
 abbrev pub setting_of : Kind → Setting
 {settings}
+setting_of k = setting.Elsewhere
 """
 
 
@@ -314,7 +319,7 @@ ghost use Rattle.std.specs.Prelude.{{◌≡◌}};
 ghost use Rattle.oxt_grammar.specs.Keys.{{{part_names("key_of", list(texts))}}};
 
 /// A field of a node, by its name; which kinds have it, the rows tell.
-#[derive(Clone, Copy, Debug, PartialEq, Eq)]
+#[derive(Clone, Copy, PartialEq, Eq)]
 pub enum Field {{
 {variants(texts)}
 }}
@@ -335,7 +340,7 @@ use Rattle.oxt_grammar.specs.declared.field.Field.TheVariants as field
 
 
 def kinds_spec(g):
-    typescript = "\n".join(f"is_typescript_kind {k} = {'true' if g.is_typescript(k) else 'false'}" for k in g.kinds)
+    typescript = "\n".join(f"is_typescript_kind {k} = true" for k in g.kinds if g.is_typescript(k))
     return f"""-- {NOTE}
 use Rattle.std.specs.Prelude.{{ℕ, List, [], Bool, true, false, codes}}
 use Rattle.oxt_grammar.specs.declared.kind.Kind.{{Kind}}
@@ -345,6 +350,7 @@ use Rattle.oxt_grammar.specs.declared.kind.Kind.TheVariants.{{{", ".join(g.kinds
 -- whether a kind is one of TypeScript alone
 abbrev pub is_typescript_kind : Kind → Bool
 {typescript}
+is_typescript_kind k = false
 """
 
 
@@ -360,7 +366,7 @@ ghost use Rattle.oxt_grammar.specs.Categories.{{kinds_in}};
 use crate::kind::Kind;
 
 /// A set of kinds that may stand at a place.
-#[derive(Clone, Copy, Debug, PartialEq, Eq)]
+#[derive(Clone, Copy, PartialEq, Eq)]
 pub enum Category {{
 {variants(g.categories)}
 }}
@@ -415,7 +421,7 @@ ghost use Rattle.std.specs.Str.{{bytes_eq}};
 ghost use Rattle.oxt_grammar.specs.Words.{{text_of, words_in}};
 
 /// A word that a field may hold.
-#[derive(Clone, Copy, Debug, PartialEq, Eq)]
+#[derive(Clone, Copy, PartialEq, Eq)]
 pub enum Word {{
 {variants(map(word_variant, all_words))}
 }}
@@ -432,7 +438,7 @@ impl Word {{
 }}
 
 /// The words that a field may hold, named after the field.
-#[derive(Clone, Copy, Debug, PartialEq, Eq)]
+#[derive(Clone, Copy, PartialEq, Eq)]
 pub enum Words {{
 {variants(g.words)}
 }}

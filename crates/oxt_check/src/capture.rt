@@ -33,7 +33,7 @@ use oxt_tree::tree::Node;
 use std::alloc::Global;
 
 /// A name that would be captured.
-#[derive(Clone, Copy, Debug)]
+#[derive(Clone, Copy)]
 pub struct NameAt<'a> {
     /// The node at which it is.
     pub node: NodeId,

@@ -49,7 +49,7 @@ use oxt_tree::tree::{Node, Part};
 
 /// The pass that puts parameters which are properties on the object, moves the values of fields into the
 /// constructor and static blocks, and drops empty fields.
-#[derive(Clone, Copy, Debug)]
+#[derive(Clone, Copy)]
 pub struct ClassFields {
     /// Whether fields are set by assignment in place of definition.
     pub moves: bool,

@@ -17,7 +17,7 @@ use oxt_tree::tree::{Node, Part};
 use oxt_unbuilt::dropped::is_dropped;
 
 /// What the elements of a class have to know of it.
-#[derive(Clone, Copy, Debug)]
+#[derive(Clone, Copy)]
 pub struct ClassFacts {
     /// It is a declaration.
     pub is_declaration: bool,

@@ -24,7 +24,7 @@ use oxt_unbuilt::dropped::{inside_dropped, is_dropped};
 use std::alloc::Global;
 
 /// What is wrong with the place of an element of a class.
-#[derive(Clone, Copy, Debug, PartialEq, Eq)]
+#[derive(Clone, Copy, PartialEq, Eq)]
 pub enum ClassFault {
     /// It is the constructor of a derived class and takes on properties or fields, which stand behind the call of
     /// `super`; but it does not call `super` exactly once, in a statement of its body by itself.
@@ -39,7 +39,7 @@ pub enum ClassFault {
 }
 
 /// An element of a class that stands where it may not.
-#[derive(Clone, Copy, Debug, PartialEq, Eq)]
+#[derive(Clone, Copy, PartialEq, Eq)]
 pub struct MisplacedElement {
     /// What is wrong.
     pub fault: ClassFault,

@@ -9,7 +9,7 @@ use oxt_tree::ids::OutOfMemory;
 pub const MOST_TEXT: u64 = 16_777_216;
 
 /// A count of bytes of text.
-#[derive(Debug, Drop, PartialEq, Eq)]
+#[derive(Drop, PartialEq, Eq)]
 pub struct TextMeter {
     /// How many there were so far.
     pub bytes: u64,

@@ -6,7 +6,7 @@ use oxt_tree::ids::NodeId;
 use oxt_tree::name::Name;
 
 /// What is known of a node around the one that is being visited.
-#[derive(Debug, Drop)]
+#[derive(Drop)]
 pub struct AncestorRecord {
     /// What the node is.
     pub kind: Kind,

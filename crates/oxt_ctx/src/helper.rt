@@ -15,7 +15,7 @@ use oxt_tree::tree::{Node, Part};
 use std::alloc::Global;
 
 /// A helper that runs with the code, a member of `babelHelpers`.
-#[derive(Clone, Copy, Debug)]
+#[derive(Clone, Copy)]
 pub enum Helper {
     /// Applies decorators to a class or to an element of it.
     Decorate,

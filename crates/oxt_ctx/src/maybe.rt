@@ -17,7 +17,7 @@ use oxt_tree::tree::{Node, Part};
 use std::alloc::Global;
 
 /// A name, and the symbol that it is bound to, if any.
-#[derive(Debug, Drop)]
+#[derive(Drop)]
 pub struct MaybeBoundIdentifier {
     /// How it is spelled.
     pub name: Name,

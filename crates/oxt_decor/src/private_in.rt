@@ -14,7 +14,7 @@ use oxt_visit::visitor::VisitJs;
 
 /// A visitor that notes whether it met a test of a private name. The pass asks `oxt_decorated`, which leaves out
 /// what is erased.
-#[derive(Clone, Copy, Debug)]
+#[derive(Clone, Copy)]
 pub struct PrivateInExpressionDetector {
     has_met_one: bool,
 }

@@ -22,7 +22,7 @@ use oxt_unbuilt::dropped::{is_declared_field, is_dropped};
 use std::alloc::Global;
 
 /// A bare name of a member at which the name of its enum means something else.
-#[derive(Clone, Copy, Debug)]
+#[derive(Clone, Copy)]
 pub struct ShadowedName<'a> {
     /// The node that is the bare name.
     pub node: NodeId,

@@ -19,7 +19,7 @@ use oxt_tree::tree::{Node, Part};
 use oxt_unbuilt::dropped::{inside_dropped, is_dropped};
 
 /// A member whose constant would be larger than the largest.
-#[derive(Clone, Copy, Debug, PartialEq, Eq)]
+#[derive(Clone, Copy, PartialEq, Eq)]
 pub struct WideMember {
     /// The number of the node.
     pub node: NodeId,

@@ -14,7 +14,7 @@ use oxt_tree::tree::Part;
 use std::alloc::Global;
 
 /// A block of an enum.
-#[derive(Clone, Copy, Debug, PartialEq, Eq)]
+#[derive(Clone, Copy, PartialEq, Eq)]
 pub struct EnumBlock<'a> {
     /// The number of its body, which opens a scope.
     pub body: NodeId,

@@ -25,7 +25,7 @@ use oxt_tree::tree::Node;
 use std::alloc::Global;
 
 /// The constant of a member of an enum.
-#[derive(Debug, Drop, PartialEq, Eq)]
+#[derive(Drop, PartialEq, Eq)]
 pub struct MemberConstant {
     /// The number of the member.
     pub node: NodeId,

@@ -35,7 +35,7 @@ use std::alloc::Global;
 
 /// The pass that puts a variable in the place of each `import =` that the plan keeps, and an assignment
 /// in the place of each `export =`. An `import =` that the plan does not keep stays.
-#[derive(Clone, Copy, Debug)]
+#[derive(Clone, Copy)]
 pub struct TypeScriptModule {
     /// Whether unused imports are kept, but for those of types alone.
     pub only_remove_type_imports: bool,

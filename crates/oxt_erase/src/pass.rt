@@ -32,7 +32,7 @@ use oxt_tree::tree::{Node, Part};
 /// The pass that erases what stands for nothing at run time: declarations and class elements of
 /// TypeScript alone, fields that only TypeScript has, and the wrappers around expressions, but for those
 /// around targets that may not be assigned to. It puts nothing aside.
-#[derive(Clone, Copy, Debug)]
+#[derive(Clone, Copy)]
 pub struct TypeScriptAnnotations;
 
 impl TypeScriptAnnotations {
@@ -66,7 +66,7 @@ impl Pass for TypeScriptAnnotations {
 }
 
 /// What is erased of a node.
-#[derive(Clone, Copy, Debug, PartialEq, Eq)]
+#[derive(Clone, Copy, PartialEq, Eq)]
 enum Erased {
     /// The wrapper that it is.
     Wrapper,

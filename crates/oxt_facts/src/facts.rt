@@ -41,7 +41,7 @@ struct TreeFacts {
 
 /// A block of an enum around a place: the group of the enum's name, and the block's number, by which the parameter of its
 /// function goes.
-#[derive(Clone, Copy, Debug)]
+#[derive(Clone, Copy)]
 pub struct Inner {
     pub group: u64,
     pub block: u64,

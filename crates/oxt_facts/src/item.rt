@@ -6,7 +6,7 @@ use oxt_grammar::word::Word;
 use oxt_tree::name::Name;
 
 /// What an item stands for.
-#[derive(Clone, Copy, Debug, PartialEq, Eq)]
+#[derive(Clone, Copy, PartialEq, Eq)]
 pub enum ItemKind {
     /// The line for the system at the start of a program.
     Hash,
@@ -116,7 +116,7 @@ impl ItemKind {
 }
 
 /// What a name is declared as.
-#[derive(Clone, Copy, Debug, PartialEq, Eq)]
+#[derive(Clone, Copy, PartialEq, Eq)]
 pub enum Binding {
     Var,
     Let,
@@ -156,7 +156,7 @@ impl Binding {
 }
 
 /// A text, a number, a flag or nothing.
-#[derive(Debug, Drop)]
+#[derive(Drop)]
 pub enum Atom {
     Nothing,
     Flag(bool),
@@ -169,7 +169,7 @@ pub enum Atom {
 
 /// An item: what it stands for, what it is spelled, further texts and flags, and the group that a name means or declares:
 /// none where the name is free, and for what is no name.
-#[derive(Debug, Drop)]
+#[derive(Drop)]
 pub struct Item {
     pub kind: ItemKind,
     pub spelling: Atom,

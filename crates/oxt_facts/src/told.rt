@@ -11,7 +11,7 @@ use std::alloc::Global;
 use std::marker::Model;
 
 /// The value of a member of an enum.
-#[derive(Debug, Drop)]
+#[derive(Drop)]
 pub enum MemberValue {
     /// A constant.
     Constant(ConstantValue),
@@ -22,7 +22,7 @@ pub enum MemberValue {
 }
 
 /// What is told of a block of an enum.
-#[derive(Debug, Drop)]
+#[derive(Drop)]
 pub struct ToldBlock {
     /// The enum's name.
     pub name: Name,
@@ -39,7 +39,7 @@ pub struct ToldBlock {
 }
 
 /// What is told of a member of an enum.
-#[derive(Debug, Drop)]
+#[derive(Drop)]
 pub struct ToldMember {
     /// The enum's name.
     pub owner: Name,
@@ -54,14 +54,14 @@ pub struct ToldMember {
 }
 
 /// What is told of a piece of a template: its texts, as they are written and as they are meant.
-#[derive(Debug, Drop)]
+#[derive(Drop)]
 pub struct ToldQuasi {
     pub raw: Option<Name>,
     pub cooked: Option<Name>,
 }
 
 /// What is told of a block of a namespace that becomes a function.
-#[derive(Debug, Drop)]
+#[derive(Drop)]
 pub struct ToldNamespace {
     /// The namespace's name.
     pub name: Name,
@@ -76,14 +76,14 @@ pub struct ToldNamespace {
 }
 
 /// A name with its group.
-#[derive(Debug, Drop)]
+#[derive(Drop)]
 pub struct ToldName {
     pub name: Name,
     pub group: Option<u64>,
 }
 
 /// What is told of an export in a namespace.
-#[derive(Debug, Drop)]
+#[derive(Drop)]
 pub struct ToldExport {
     /// The tag of the block in which it stands.
     pub tag: Name,
@@ -92,7 +92,7 @@ pub struct ToldExport {
 }
 
 /// What is told of a declarator that an export in a namespace holds.
-#[derive(Debug, Drop)]
+#[derive(Drop)]
 pub struct ToldStored {
     /// The tag of the block in which it stands.
     pub tag: Name,
@@ -102,7 +102,7 @@ pub struct ToldStored {
 
 /// What is told of the body of a class that has parameter properties or fields that move into its constructor, whose alias is kept
 /// in it, or whose elements are called in it.
-#[derive(Debug, Drop)]
+#[derive(Drop)]
 pub struct ToldClass {
     /// Whether its constructor puts more on the object than is written in it, or empty fields stand in front.
     pub gains: bool,
@@ -123,14 +123,14 @@ pub struct ToldClass {
 }
 
 /// By what name something is called: a name of the source, or a made one by its tag.
-#[derive(Debug, Drop)]
+#[derive(Drop)]
 pub enum ToldUse {
     Name(ToldName),
     Made(Name),
 }
 
 /// What is told of a name of the source that metadata writes for a type.
-#[derive(Debug, Drop)]
+#[derive(Drop)]
 pub struct ToldReference {
     /// The node that is the first name in it.
     pub root: NodeId,
@@ -141,7 +141,7 @@ pub struct ToldReference {
 }
 
 /// What is told of a type that metadata writes.
-#[derive(Debug, Drop)]
+#[derive(Drop)]
 pub enum ToldType {
     /// A global name.
     Global(Name),
@@ -152,7 +152,7 @@ pub enum ToldType {
 }
 
 /// What is told of the metadata of a class or of an element of it.
-#[derive(Debug, Drop)]
+#[derive(Drop)]
 pub struct ToldMetadata {
     /// The type of the element itself, if that is written.
     pub design: Option<ToldType>,
@@ -163,7 +163,7 @@ pub struct ToldMetadata {
 }
 
 /// What is told of the call that an element of a class gives.
-#[derive(Debug, Drop)]
+#[derive(Drop)]
 pub struct ToldCall {
     /// The class.
     pub class: ToldUse,
@@ -180,7 +180,7 @@ pub struct ToldCall {
 }
 
 /// What is told of an element of a class that gives a call.
-#[derive(Debug, Drop)]
+#[derive(Drop)]
 pub struct ToldElement {
     /// The call.
     pub call: ToldCall,
@@ -189,7 +189,7 @@ pub struct ToldElement {
 }
 
 /// What is told of a field whose value is put where it moves to.
-#[derive(Debug, Drop)]
+#[derive(Drop)]
 pub struct ToldField {
     /// Whether it is put on the class, in a static block.
     pub is_static: bool,
@@ -204,7 +204,7 @@ pub struct ToldField {
 }
 
 /// The name of the field in which an accessor keeps its value.
-#[derive(Debug, Drop)]
+#[derive(Drop)]
 pub enum ToldStorage {
     /// It is made from that text.
     Plain(Name),
@@ -213,14 +213,14 @@ pub enum ToldStorage {
 }
 
 /// The object on which an accessor keeps its value.
-#[derive(Debug, Drop)]
+#[derive(Drop)]
 pub enum ToldObject {
     This,
     Use(ToldUse),
 }
 
 /// What is told of an accessor that becomes a field, a getter and a setter.
-#[derive(Debug, Drop)]
+#[derive(Drop)]
 pub struct ToldAccessor {
     /// Whether it is one of the class itself.
     pub is_static: bool,
@@ -238,7 +238,7 @@ pub struct ToldAccessor {
 
 /// What is told of the declaration of a class that is decorated, behind which the decorators of its elements are called, or that
 /// takes a made name.
-#[derive(Debug, Drop)]
+#[derive(Drop)]
 pub struct ToldDecorated {
     /// Whether it is decorated itself.
     pub is_decorated: bool,
@@ -259,7 +259,7 @@ pub struct ToldDecorated {
 }
 
 /// What is told of a node.
-#[derive(Debug, Drop)]
+#[derive(Drop)]
 pub enum Told {
     /// It is a block of an enum.
     Block(ToldBlock),

@@ -13,7 +13,7 @@ use oxt_tree::ids::NodeId;
 use oxt_tree::tree::{Node, Part};
 
 /// The scopes of a class that has a constructor with a body.
-#[derive(Clone, Copy, Debug, PartialEq, Eq)]
+#[derive(Clone, Copy, PartialEq, Eq)]
 pub struct ClassScopes {
     /// That of the class itself.
     pub own: ScopeId,
@@ -22,7 +22,7 @@ pub struct ClassScopes {
 }
 
 /// What is known of the class around a field.
-#[derive(Clone, Copy, Debug, PartialEq, Eq)]
+#[derive(Clone, Copy, PartialEq, Eq)]
 pub struct ClassAround {
     /// Private instance fields move too.
     pub hoists: bool,

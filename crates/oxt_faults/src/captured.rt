@@ -28,7 +28,7 @@ use oxt_unbuilt::dropped::{inside_dropped, is_dropped};
 use std::alloc::Global;
 
 /// A name that would change its owner.
-#[derive(Clone, Copy, Debug)]
+#[derive(Clone, Copy)]
 pub struct CapturedName<'a> {
     /// The node that is the name.
     pub node: NodeId,

@@ -7,7 +7,7 @@ use crate::level::FoundWord;
 use oxt_tree::ids::NodeId;
 
 /// A name that would mean something else once the fields of its class move.
-#[derive(Clone, Copy, Debug)]
+#[derive(Clone, Copy)]
 pub struct MovedName<'a> {
     /// The node at which it is.
     pub node: NodeId,

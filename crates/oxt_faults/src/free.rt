@@ -28,7 +28,7 @@ use oxt_tree::tree::{Node, Part};
 use oxt_unbuilt::dropped::{inside_dropped, is_dropped};
 
 /// A name that lowered code has of its own.
-#[derive(Clone, Copy, Debug, PartialEq, Eq)]
+#[derive(Clone, Copy, PartialEq, Eq)]
 pub enum FreeWord {
     /// `module`, for `export = e`.
     Module,
@@ -58,7 +58,7 @@ impl FreeWord {
 }
 
 /// Such a name that would mean a declaration, or would be meant in place of one.
-#[derive(Clone, Copy, Debug)]
+#[derive(Clone, Copy)]
 pub struct FoundFree {
     /// The node that it is made for.
     pub node: NodeId,
@@ -68,7 +68,7 @@ pub struct FoundFree {
 
 /// Which of these names a declaration that emits code has, in a scope around, and what an element has to know of the class
 /// around it.
-#[derive(Clone, Copy, Debug)]
+#[derive(Clone, Copy)]
 pub struct Taken {
     /// `module`.
     pub module: bool,

@@ -19,7 +19,7 @@ use oxt_scoping::scoping::Scoping;
 use oxt_tree::tree::{Node, Part};
 
 /// Which of these names a declaration that emits code has, in a scope around.
-#[derive(Clone, Copy, Debug)]
+#[derive(Clone, Copy)]
 pub struct Globals {
     /// `Object`.
     pub object: bool,

@@ -15,7 +15,7 @@ use oxt_tree::ids::NodeId;
 use oxt_tree::tree::{Node, Part};
 
 /// A word at the level of some code.
-#[derive(Clone, Copy, Debug, PartialEq, Eq)]
+#[derive(Clone, Copy, PartialEq, Eq)]
 pub struct FoundWord {
     /// The word.
     pub word: LevelWord,
@@ -24,7 +24,7 @@ pub struct FoundWord {
 }
 
 /// What the search for such words knows of the nodes around a node.
-#[derive(Clone, Copy, Debug)]
+#[derive(Clone, Copy)]
 pub struct Around {
     /// What of the node stands at the level.
     pub reach: Reach,

@@ -11,7 +11,7 @@ use oxt_grammar::kind::Kind;
 use oxt_tree::tree::Node;
 
 /// What a node stands as, where not every node may stand.
-#[derive(Clone, Copy, Debug)]
+#[derive(Clone, Copy)]
 pub enum Seat {
     /// The body of a label or of `with`.
     Body,

@@ -26,7 +26,7 @@ use oxt_tree::tree::{Node, Part};
 use oxt_unbuilt::dropped::{is_declared_field, is_dropped};
 
 /// Where the search for the uses of a decorated class stands.
-#[derive(Clone, Copy, Debug, PartialEq, Eq)]
+#[derive(Clone, Copy, PartialEq, Eq)]
 pub enum Place {
     /// At an element of the class.
     Element,

@@ -3,7 +3,7 @@ ghost use Rattle.std.specs.Prelude.{◌≡◌};
 ghost use Rattle.oxt_grammar.specs.Keys.{key_of, key_of_2, key_of_3};
 
 /// A field of a node, by its name; which kinds have it, the rows tell.
-#[derive(Clone, Copy, Debug, PartialEq, Eq)]
+#[derive(Clone, Copy, PartialEq, Eq)]
 pub enum Field {
     SourceType,
     Lang,

@@ -9,7 +9,7 @@ use crate::field::Field;
 use crate::word::Words;
 
 /// What may stand in a field.
-#[derive(Clone, Copy, Debug, PartialEq, Eq)]
+#[derive(Clone, Copy, PartialEq, Eq)]
 pub enum Holds {
     /// A text.
     Text,
@@ -38,7 +38,7 @@ pub enum Holds {
 }
 
 /// Whether a field has to be there.
-#[derive(Clone, Copy, Debug, PartialEq, Eq)]
+#[derive(Clone, Copy, PartialEq, Eq)]
 pub enum Presence {
     /// It has to be there.
     Required,
@@ -49,7 +49,7 @@ pub enum Presence {
 }
 
 /// A field of a kind.
-#[derive(Clone, Copy, Debug)]
+#[derive(Clone, Copy)]
 pub struct Row {
     /// The field.
     pub field: Field,

@@ -13,7 +13,7 @@ use oxt_modules::nodes::NodeList;
 use oxt_tree::ids::NodeId;
 
 /// What a node stands as.
-#[derive(Clone, Copy, Debug)]
+#[derive(Clone, Copy)]
 pub enum Seat {
     /// Something whose value is read, or anything else.
     Value,

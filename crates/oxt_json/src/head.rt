@@ -18,7 +18,7 @@ use oxt_tree::ids::Span;
 use std::alloc::Global;
 
 /// What a node is and where it stands in the source text.
-#[derive(Clone, Copy, Debug)]
+#[derive(Clone, Copy)]
 pub struct Head {
     pub kind: Kind,
     pub span: Span,

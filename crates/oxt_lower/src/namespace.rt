@@ -39,7 +39,7 @@ use oxt_tree::tree::{Node, Part};
 /// The pass that puts in the place of each block of a namespace the call of a function that puts what the
 /// block exports on the namespace's object. It does so for the whole program before its parts are walked,
 /// so that what stands in the blocks is lowered as anything else. Blocks of types alone stay.
-#[derive(Clone, Copy, Debug)]
+#[derive(Clone, Copy)]
 pub struct TypeScriptNamespace;
 
 impl TypeScriptNamespace {

@@ -33,7 +33,7 @@ use oxt_tree::tree::{Node, Part};
 /// enum's object, and in the place of each expression that the plan inlines its constant. Blocks that the
 /// plan drops go when their list is left, so that nothing is in their place. Blocks that are erased stay,
 /// and so do enums that are not statements.
-#[derive(Clone, Copy, Debug)]
+#[derive(Clone, Copy)]
 pub struct TypeScriptEnum {
     /// Whether members of enums with `const` are inlined.
     pub optimize_const_enums: bool,

@@ -34,7 +34,7 @@ use oxt_tree::tree::Node;
 use std::alloc::Global;
 
 /// A type annotation of which metadata tells.
-#[derive(Clone, Copy, Debug)]
+#[derive(Clone, Copy)]
 pub struct Annotation {
     /// The annotation.
     pub node: NodeId,

@@ -20,7 +20,7 @@ use oxt_unbuilt::dropped::{is_declared_field, is_dropped};
 use std::alloc::Global;
 
 /// What stands in the text.
-#[derive(Clone, Copy, Debug)]
+#[derive(Clone, Copy)]
 pub enum Event {
     /// A block of the enum of that symbol, of that shape.
     Block(SymbolId, Shape),
@@ -29,7 +29,7 @@ pub enum Event {
 }
 
 /// What stands around a node.
-#[derive(Clone, Copy, Debug, PartialEq, Eq)]
+#[derive(Clone, Copy, PartialEq, Eq)]
 pub enum Around {
     /// Code.
     Code,

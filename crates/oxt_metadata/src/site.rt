@@ -16,7 +16,7 @@ use oxt_tree::tree::Node;
 use oxt_unbuilt::dropped::{inside_dropped, is_declared_field, is_dropped};
 
 /// Where a node stands. The number is that of the class whose metadata is looked at.
-#[derive(Clone, Copy, Debug, PartialEq, Eq)]
+#[derive(Clone, Copy, PartialEq, Eq)]
 pub enum Site {
     /// In other code.
     Code,

@@ -17,7 +17,7 @@ use oxt_unbuilt::dropped::{inside_dropped, is_dropped};
 use std::alloc::Global;
 
 /// What a program has of JSX outside erased code.
-#[derive(Clone, Copy, Debug, PartialEq, Eq)]
+#[derive(Clone, Copy, PartialEq, Eq)]
 pub struct JsxUse {
     /// An element.
     pub has_element: bool,
@@ -26,7 +26,7 @@ pub struct JsxUse {
 }
 
 /// A node by which JSX uses a name.
-#[derive(Clone, Copy, Debug, PartialEq, Eq)]
+#[derive(Clone, Copy, PartialEq, Eq)]
 pub enum JsxNode {
     /// An element.
     Element,

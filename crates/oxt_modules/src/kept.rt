@@ -25,7 +25,7 @@ use oxt_tree::tree::{Node, Part};
 use std::alloc::Global;
 
 /// Where a list of specifiers stands.
-#[derive(Clone, Copy, Debug, PartialEq, Eq)]
+#[derive(Clone, Copy, PartialEq, Eq)]
 pub enum Place {
     /// In an import.
     Import,

@@ -15,7 +15,7 @@ use oxt_tree::ids::{NodeId, OutOfMemory};
 use std::alloc::Global;
 
 /// What is asked of a symbol.
-#[derive(Clone, Copy, Debug, PartialEq, Eq)]
+#[derive(Clone, Copy, PartialEq, Eq)]
 pub struct SymbolAnswers {
     /// The node of the first of its declarations that is more than a type.
     pub first_value: Option<NodeId>,

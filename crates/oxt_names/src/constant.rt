@@ -9,7 +9,7 @@ use oxt_tree::name::Name;
 use std::alloc::Global;
 
 /// The constant of an enum member.
-#[derive(Debug, Drop, PartialEq, Eq)]
+#[derive(Drop, PartialEq, Eq)]
 pub enum ConstantValue {
     /// A whole number.
     Number(i64),

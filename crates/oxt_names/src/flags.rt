@@ -5,7 +5,7 @@ ghost use Rattle.oxt_names.specs.Flags.{is_type_alone, reference_bits, reference
 use bitflags::{Flag, Flags};
 
 /// What is known of a symbol: what its declarations are, all together.
-#[derive(Clone, Copy, Debug, PartialEq, Eq)]
+#[derive(Clone, Copy, PartialEq, Eq)]
 pub struct SymbolFlags(u32);
 
 impl SymbolFlags {
@@ -167,7 +167,7 @@ impl Flags for SymbolFlags {
 }
 
 /// What is known of a scope.
-#[derive(Clone, Copy, Debug, PartialEq, Eq)]
+#[derive(Clone, Copy, PartialEq, Eq)]
 pub struct ScopeFlags(u16);
 
 impl ScopeFlags {
@@ -269,7 +269,7 @@ impl Flags for ScopeFlags {
 }
 
 /// What a reference does with the name.
-#[derive(Clone, Copy, Debug, PartialEq, Eq)]
+#[derive(Clone, Copy, PartialEq, Eq)]
 pub struct ReferenceFlags(u8);
 
 impl ReferenceFlags {

@@ -3,7 +3,7 @@ ghost use Rattle.std.specs.Prelude.{◌≡◌};
 ghost use Rattle.oxt_names.specs.Operators.{binary_operators, binary_text, binary_written, unary_operators, unary_text, unary_written};
 
 /// An operator before its operand.
-#[derive(Clone, Copy, Debug, PartialEq, Eq)]
+#[derive(Clone, Copy, PartialEq, Eq)]
 pub enum UnaryOperator {
     /// `+`
     Plus,
@@ -14,7 +14,7 @@ pub enum UnaryOperator {
 }
 
 /// An operator between its operands.
-#[derive(Clone, Copy, Debug, PartialEq, Eq)]
+#[derive(Clone, Copy, PartialEq, Eq)]
 pub enum BinaryOperator {
     /// `+`
     Add,

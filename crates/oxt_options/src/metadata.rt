@@ -5,7 +5,7 @@ ghost use Rattle.oxt_options.specs.Metadata.{text_of_global};
 use oxt_tree::ids::NodeId;
 
 /// A name that metadata has of its own, which is free.
-#[derive(Clone, Copy, Debug, PartialEq, Eq)]
+#[derive(Clone, Copy, PartialEq, Eq)]
 pub enum GlobalName {
     /// `Object`, also for a type of which nothing closer can be said.
     Object,
@@ -47,7 +47,7 @@ impl GlobalName {
 }
 
 /// What metadata writes for a type.
-#[derive(Clone, Copy, Debug, PartialEq, Eq)]
+#[derive(Clone, Copy, PartialEq, Eq)]
 pub enum MetadataType {
     /// A global name.
     Global(GlobalName),

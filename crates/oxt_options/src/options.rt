@@ -9,7 +9,7 @@ use oxt_tree::name::Name;
 use std::alloc::Global;
 
 /// The module system that the lowered program is written for.
-#[derive(Clone, Copy, Debug, PartialEq, Eq)]
+#[derive(Clone, Copy, PartialEq, Eq)]
 pub enum Module {
     /// That of the source.
     Preserve,

@@ -5,7 +5,7 @@ ghost use Rattle.oxt_options.specs.Options.{state_of};
 use crate::options::{Module, TransformOptions};
 
 /// What all passes know of the run.
-#[derive(Clone, Copy, Debug, PartialEq, Eq)]
+#[derive(Clone, Copy, PartialEq, Eq)]
 pub struct TransformState {
     /// What the lowered program is written for.
     pub module: Module,

@@ -16,7 +16,7 @@ use oxt_tree::tree::Node;
 use std::alloc::Global;
 
 /// A name that is used, and its owner.
-#[derive(Clone, Copy, Debug, PartialEq, Eq)]
+#[derive(Clone, Copy, PartialEq, Eq)]
 pub struct OwnedName {
     /// The number of the node that is the name.
     pub node: NodeId,

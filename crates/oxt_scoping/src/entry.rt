@@ -17,7 +17,7 @@ use std::alloc::Global;
 use std::marker::Model;
 
 /// A declaration of a symbol.
-#[derive(Clone, Copy, Debug, PartialEq, Eq)]
+#[derive(Clone, Copy, PartialEq, Eq)]
 pub struct Redeclaration {
     /// The node that is the name.
     pub node: NodeId,
@@ -28,7 +28,7 @@ pub struct Redeclaration {
 }
 
 /// A use of a name.
-#[derive(Clone, Copy, Debug, PartialEq, Eq)]
+#[derive(Clone, Copy, PartialEq, Eq)]
 pub struct Reference {
     /// The node that is the name.
     pub node: NodeId,
@@ -39,7 +39,7 @@ pub struct Reference {
 }
 
 /// A reference, and whether it is there still.
-#[derive(Clone, Copy, Debug, PartialEq, Eq)]
+#[derive(Clone, Copy, PartialEq, Eq)]
 pub struct Slot {
     pub reference: Reference,
     pub is_live: bool,

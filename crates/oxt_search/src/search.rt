@@ -14,7 +14,7 @@ use oxt_grammar::kind::Kind;
 use oxt_tree::tree::Node;
 
 /// What a search looks at inside a node.
-#[derive(Clone, Copy, Debug)]
+#[derive(Clone, Copy)]
 pub enum Inside<S> {
     /// Nothing.
     Skipped,

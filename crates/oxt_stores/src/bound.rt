@@ -4,7 +4,7 @@ use oxt_names::ids::SymbolId;
 use oxt_tree::name::Name;
 
 /// A name that is bound, and its symbol.
-#[derive(Debug, Drop)]
+#[derive(Drop)]
 pub struct BoundIdentifier {
     /// How it is spelled.
     pub name: Name,

@@ -23,7 +23,7 @@ pub const LIMIT: usize = 16_777_216;
 pub const USAGE: &str = "usage: oxt [flags] < tree.json\n";
 
 /// How a run ended.
-#[derive(Debug, Drop)]
+#[derive(Drop)]
 pub enum Outcome {
     /// The plain tree was written.
     Done,

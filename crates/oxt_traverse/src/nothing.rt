@@ -7,7 +7,7 @@ use oxt_tree::ids::OutOfMemory;
 use oxt_tree::tree::{Node, Part};
 
 /// The pass that leaves each tree as it is.
-#[derive(Clone, Copy, Debug)]
+#[derive(Clone, Copy)]
 pub struct Nothing;
 
 impl Pass for Nothing {

@@ -5,7 +5,7 @@ ghost use Rattle.oxt_word.specs.Word.{takes};
 use oxt_facts::item::Binding;
 
 /// How a part of the tree is read.
-#[derive(Clone, Copy, Debug, PartialEq, Eq)]
+#[derive(Clone, Copy, PartialEq, Eq)]
 pub enum Way {
     /// As what it does.
     Whole,
