@@ -3,3 +3,4 @@ pub mod Following
 pub mod Forms
 pub mod Metered
 pub mod Operands
+pub mod Reversed

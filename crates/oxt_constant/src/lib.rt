@@ -9,3 +9,4 @@ pub mod member;
 pub mod meter;
 pub mod operand;
 pub mod parts;
+pub mod reversed;

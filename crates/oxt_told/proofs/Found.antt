@@ -11,7 +11,8 @@ use Rattle.oxt_names.specs.Constant.{Constant}
 use Rattle.oxt_names.specs.declared.ids.ReferenceId.{ReferenceId}
 use Rattle.oxt_names.specs.declared.ids.ScopeId.{ScopeId}
 use Rattle.oxt_names.specs.declared.ids.SymbolId.{SymbolId}
-use Rattle.oxt_told.specs.Source.{Around, Asked, all_told, ambient_told, around, bare_at, bares, block_told, is_reversed, members_bares, members_told, name_in, symbol_bares, symbol_told, value_of}
+use Rattle.oxt_told.specs.Source.{Around, Asked, all_told, ambient_told, around, bare_at, bares, block_told, members_bares, members_told, name_in, symbol_bares, symbol_told, value_of}
+use Rattle.oxt_constant.specs.Reversed.{is_reversed}
 use Rattle.oxt_told.specs.Syntax.{is_pure}
 use Rattle.oxt_tree.specs.Doc.{Doc, Docs}
 

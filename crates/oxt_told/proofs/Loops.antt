@@ -7,7 +7,6 @@ use Rattle.oxt_names.specs.declared.ids.ReferenceId.{ReferenceId}
 use Rattle.oxt_told.specs.Modules.{specifier_told, specifiers_told, statement_told, statements_told}
 use Rattle.oxt_told.specs.Source.{Around, Asked, Chosen, all_told, bare_at, bares, member_bares, member_name, member_told, members_bares, members_told, told_in, told_in_each}
 use Rattle.oxt_told.specs.declared.seat.Seat.{Seat}
-use Rattle.oxt_told.specs.Syntax.{is_text_form, some_text_form}
 use Rattle.oxt_tree.proofs.Lists.{drop_at, drop_end}
 use Rattle.oxt_tree.specs.View.{docs_in, part_doc}
 use Rattle.oxt_tree.specs.declared.tree.Part.{Part}
@@ -26,16 +25,6 @@ told_three ts one two new xs bs cs first second third = told_both ts one new xs 
 pub told_four : (ts one two three new xs bs cs ds : Tellings) → one ≡ all_told ts xs → two ≡ all_told one bs → three ≡ all_told two cs → new ≡ all_told three ds
     → new ≡ all_told ts (xs ++ (bs ++ (cs ++ ds)))
 told_four ts one two three new xs bs cs ds first second third fourth = told_both ts one new xs (bs ++ (cs ++ ds)) first (told_three one two three new bs cs ds second third fourth)
-
--- ---- forms of texts
-
-pub form_more : (ps : List Part) (i : ℕ) (p : Part) → i < length ps → p ≡ get_or ps i p → some_text_form (docs_in (drop i ps)) ≡ (is_text_form (part_doc p) || some_text_form (docs_in (drop (i + 1) ps)))
-form_more ps i p lt here = ap (λ qs. some_text_form (docs_in qs)) (drop_at ps i p lt here)
-
-pub form_done : (ps : List Part) (i : ℕ) → length ps ≤ i → some_text_form (docs_in (drop i ps)) ≡ false
-form_done ps i le = ap (λ qs. some_text_form (docs_in qs)) (drop_end ps i le)
-
-pub ruleset form_steps = (form_more, form_done)
 
 -- ---- members
 

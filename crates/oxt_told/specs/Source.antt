@@ -11,7 +11,7 @@ use Rattle.oxt_options.specs.declared.rewrite.RewriteExtensionsMode.{RewriteExte
 use Rattle.oxt_scoping.specs.Entries.{SymbolData}
 use Rattle.oxt_scoping.specs.Scoped.{Scoped, live_at}
 use Rattle.oxt_scoping.specs.declared.entry.Reference.{Reference}
-use Rattle.oxt_names.specs.Constant.{Constant, integer, string}
+use Rattle.oxt_names.specs.Constant.{Constant}
 use Rattle.oxt_names.specs.declared.ids.ReferenceId.{ReferenceId}
 use Rattle.oxt_grammar.specs.Places.{same_kind}
 use Rattle.oxt_grammar.specs.declared.kind.Kind.{Kind}
@@ -23,7 +23,8 @@ use Rattle.oxt_told.specs.Extensions.{extension_told, has_source}
 use Rattle.oxt_told.specs.Namespaces.{seat_told, seat_inside}
 use Rattle.oxt_told.specs.Symbols.{first_node, named_symbol}
 use Rattle.oxt_told.specs.declared.seat.Seat.{Seat}
-use Rattle.oxt_told.specs.Syntax.{is_pure, is_text_form}
+use Rattle.oxt_constant.specs.Reversed.{is_reversed}
+use Rattle.oxt_told.specs.Syntax.{is_pure}
 use Rattle.oxt_told.specs.Uses.{legacy_told}
 use Rattle.oxt_told.specs.declared.told.Source.{Source}
 use Rattle.oxt_tree.specs.Doc.{Doc, nil, flag, number, text, list, node, Docs, no_docs, doc}
@@ -43,15 +44,6 @@ following_or (Some t) = following t
 abbrev pub value_of : Option Constant → Option (List ℕ) → Doc → Value
 value_of (Some c) p d = constant c
 value_of None p d = if is_nil d then following_or p else written
-
-abbrev pub is_text_constant : Option Constant → Bool
-is_text_constant None = false
-is_text_constant (Some (integer z)) = false
-is_text_constant (Some (string t)) = true
-
--- A member can be looked up by its value where that is no text, neither as a constant nor by its form.
-abbrev pub is_reversed : Option Constant → Doc → Bool
-is_reversed c d = not (is_text_constant c) && not (is_text_form d)
 
 -- ---- enums
 

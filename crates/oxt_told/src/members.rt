@@ -5,12 +5,12 @@ ghost use Rattle.oxt_facts.specs.Told.{member, value_view};
 ghost use Rattle.oxt_modules.specs.Names.{declared_symbol};
 ghost use Rattle.oxt_scoping.specs.Scoped.{live_at};
 ghost use Rattle.oxt_names.specs.Constant.{constant_view};
-ghost use Rattle.oxt_told.specs.Source.{all_told, around_view, bare_at, bares, following_or, is_reversed, is_text_constant, member_bares, member_name, member_told, members_bares, members_told, name_in, symbol_bares, symbol_told, value_of};
+ghost use Rattle.oxt_told.specs.Source.{all_told, around_view, bare_at, bares, following_or, member_bares, member_name, member_told, members_bares, members_told, name_in, symbol_bares, symbol_told, value_of};
 ghost use Rattle.oxt_tree.specs.Fields.{named};
 ghost use Rattle.oxt_tree.specs.Names.{name_bytes};
 ghost use Rattle.oxt_tree.specs.View.{docs_in, doc_or_nil, part_doc};
 
-use crate::syntax::has_text_form;
+use oxt_constant::reversed::is_reversed;
 use oxt_facts::told::{MemberValue, Told, ToldMember, ToldNodes};
 use oxt_grammar::field::Field;
 use oxt_names::constant::ConstantValue;
@@ -159,24 +159,6 @@ fn names_of(owner: &Name, name: &Name) -> Result<Names, OutOfMemory>
         owner: owner.share()?,
         name: name.share()?,
     })
-}
-
-/// Whether a member with that constant and initializer can be looked up by its value.
-fn is_reversed(constant: Option<&ConstantValue>, initializer: Option<&Part>) -> bool
-    ensures { result ≡ is_reversed (option_map (λ v. constant_view v.now) constant.entry)
-        (doc_or_nil initializer.entry) }
-{
-    !is_text_constant(constant) && !has_text_form(initializer)
-}
-
-/// Whether the constant is a text.
-fn is_text_constant(constant: Option<&ConstantValue>) -> bool
-    ensures { result ≡ is_text_constant (option_map (λ v. constant_view v.now) constant.entry) }
-{
-    match constant {
-        Some(ConstantValue::Text(_)) => true,
-        _ => false,
-    }
 }
 
 /// The value of a member with that constant and initializer, behind the member of that name.
