@@ -593,7 +593,7 @@ def word_rules_source(g):
     arms = [(k, rule_term(g.rules.get(k, "Plain"), False)) for k in g.kinds]
     return f"""// {NOTE}
 ghost use Rattle.std.specs.Prelude.{{◌≡◌}};
-ghost use Rattle.oxt_word.specs.RuleOf.{{rule_of}};
+ghost use Rattle.oxt_items.specs.RuleOf.{{rule_of}};
 
 use crate::rule::Rule;
 use oxt_facts::item::{{Binding, ItemKind}};
@@ -614,8 +614,8 @@ use Rattle.oxt_grammar.specs.declared.kind.Kind.{{Kind}}
 use Rattle.oxt_grammar.specs.declared.kind.Kind.TheVariants.{{{", ".join(g.kinds)}}}
 use Rattle.oxt_facts.specs.declared.item.Binding.TheVariants as binding
 use Rattle.oxt_facts.specs.declared.item.ItemKind.TheVariants as item
-use Rattle.oxt_word.specs.declared.rule.Rule.{{Rule}}
-use Rattle.oxt_word.specs.declared.rule.Rule.TheVariants as rule
+use Rattle.oxt_items.specs.declared.rule.Rule.{{Rule}}
+use Rattle.oxt_items.specs.declared.rule.Rule.TheVariants as rule
 
 -- the rule by which nodes of the kind are read
 unfoldable pub rule_of : Kind → Rule
@@ -864,8 +864,8 @@ def main():
         "crates/oxt_json_write/proofs/InOrder.antt": order_proof(g),
         "crates/oxt_declares/src/role_of.rt": roles_source(g),
         "crates/oxt_declares/specs/RoleOf.antt": roles_spec(g),
-        "crates/oxt_word/src/rule_of.rt": word_rules_source(g),
-        "crates/oxt_word/specs/RuleOf.antt": word_rules_spec(g),
+        "crates/oxt_items/src/rule_of.rt": word_rules_source(g),
+        "crates/oxt_items/specs/RuleOf.antt": word_rules_spec(g),
     }
     sys.exit(0 if all([write(path, text, check) for path, text in files.items()]) else 1)
 

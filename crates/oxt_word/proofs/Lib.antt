@@ -1,4 +1,1 @@
-pub mod Gains
 pub mod Loops
-pub mod Noted
-pub mod Puts

@@ -19,10 +19,11 @@ use Rattle.oxt_forms.proofs.Details.{row_at}
 use Rattle.oxt_facts.specs.Entry.{Entry, lone}
 use Rattle.oxt_forms.specs.Details.{is_read}
 use Rattle.oxt_forms.specs.Leaves.{dropped}
-use Rattle.oxt_word.specs.Word.{said, each_said, turns_said, last_said, some_said, takes, fields_said, field_said}
+use Rattle.oxt_items.specs.Read.{takes}
+use Rattle.oxt_word.specs.Word.{said, each_said, turns_said, last_said, some_said, fields_said, field_said}
 use Rattle.oxt_facts.specs.declared.item.ItemKind.TheVariants as item
-use Rattle.oxt_word.specs.declared.way.Way.{Way}
-use Rattle.oxt_word.specs.declared.way.Way.TheVariants as way
+use Rattle.oxt_items.specs.declared.way.Way.{Way}
+use Rattle.oxt_items.specs.declared.way.Way.TheVariants as way
 
 regroup : (whole old a rest : List Entry) → whole ≡ old ++ (a ++ rest) → whole ≡ (old ++ a) ++ rest
 regroup whole old a rest h = h ∙ sym (append_assoc old a rest)

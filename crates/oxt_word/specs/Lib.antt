@@ -1,15 +1,1 @@
-pub mod Accessors
-pub mod Calls
-pub mod Classes
-pub mod Decorated
-pub mod Enums
-pub mod Erased
-pub mod Helpers
-pub mod Metadata
-pub mod Modules
-pub mod Node
-pub mod RuleOf
-pub mod Namespaces
-pub mod Ways
-pub mod Whole
 pub mod Word

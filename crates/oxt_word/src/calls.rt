@@ -1,157 +1,34 @@
 //! The effect word of the calls that decorators give: those of the elements of a class, the names by which it is called, and the
 //! elements themselves.
-ghost use Rattle.std.specs.Prelude.{◌≡◌, [], ◌++◌, OnOk, codes, false, option_map};
+ghost use Rattle.std.specs.Prelude.{◌≡◌, ◌++◌, OnOk, codes, false, option_map};
 ghost use Rattle.oxt_facts.specs.Entry.{entries, lone, spelled};
-ghost use Rattle.oxt_facts.specs.Told.{calling_view, element_view, metadata_view, use_view};
-ghost use Rattle.oxt_tree.specs.Doc.{flag, number, text};
+ghost use Rattle.oxt_facts.specs.Told.{calling_view, element_view, metadata_view};
+ghost use Rattle.oxt_tree.specs.Doc.{number, text};
 ghost use Rattle.oxt_tree.specs.Names.{name_bytes};
 ghost use Rattle.oxt_tree.specs.View.{docs_in};
-ghost use Rattle.oxt_word.specs.Calls.{alias_word, applied_word, called_key, called_word, calling_word, decorator_word, decorators_list, decorators_word, description_word, element_text, given_call, injected_word, inner_word, kept_key, kept_word, keyless_field, keyless_method, receiver_word, staying_word, subject_word, tag_of, tagged_word, through_word, used_word};
-ghost use Rattle.oxt_word.specs.Helpers.{helper_start};
-ghost use Rattle.oxt_word.specs.RuleOf.{rule_of};
-ghost use Rattle.oxt_word.specs.Word.{all_fields, each_field, own_word};
+ghost use Rattle.oxt_items.specs.Calls.{applied_word, called_key, called_word, calling_word, decorator_word, decorators_list, decorators_word, element_text, given_call, injected_word, kept_key, keyless_field, keyless_method, staying_word, subject_word, tagged_word, through_word};
+ghost use Rattle.oxt_items.specs.Helpers.{helper_start};
+ghost use Rattle.oxt_items.specs.RuleOf.{rule_of};
+ghost use Rattle.oxt_items.specs.Read.{own_word};
+ghost use Rattle.oxt_word.specs.Word.{all_fields, each_field};
 
-use crate::enums::put_use;
-use crate::metadata::{put_metadata, put_void};
-use crate::modules::{put_call_start, put_free};
-use crate::namespaces::put_made;
-use crate::rule::Rule;
-use crate::rule_of::rule_of;
-use crate::way::Way;
 use crate::word::{put_field, put_fields, put_own};
 use oxt_facts::facts::Facts;
 use oxt_facts::item::{Atom, Item, ItemKind};
-use oxt_facts::told::{ToldCall, ToldElement, ToldMetadata, ToldUse};
-use oxt_forms::put::{
-    field_atom, first_atom, put_field_start, put_lone, put_owned, put_spelled, put_start,
-};
+use oxt_facts::told::{ToldCall, ToldElement, ToldMetadata};
+use oxt_forms::put::{field_atom, put_field_start, put_lone, put_spelled, put_start};
 use oxt_grammar::field::Field;
 use oxt_grammar::kind::Kind;
+use oxt_items::calls::{put_description, put_helper_start, put_keep, put_no_text, put_receiver};
+use oxt_items::metadata::put_metadata;
+use oxt_items::namespaces::put_made;
+use oxt_items::rule::Rule;
+use oxt_items::rule_of::rule_of;
+use oxt_items::way::Way;
 use oxt_tree::ids::OutOfMemory;
 use oxt_tree::name::Name;
 use oxt_tree::tree::Node;
-use std::alloc::Global;
 use std::vec;
-
-/// Puts what is called by that name.
-pub(crate) fn put_used(
-    alloc: Global,
-    name: &ToldUse,
-    out: &mut Vec<Item>,
-) -> Result<(), OutOfMemory>
-    ensures { OnOk result (entries out.new.items
-        ≡ entries out.old.items ++ used_word (use_view name.now)) }
-{
-    match name {
-        ToldUse::Name(name) => put_use(alloc, &name.name, name.group, out),
-        ToldUse::Made(tag) => put_made(alloc, tag, out),
-    }
-}
-
-/// Puts a name that is read as the made one of that tag, read that way.
-pub(crate) fn put_alias(
-    alloc: Global,
-    tag: &Name,
-    way: Way,
-    out: &mut Vec<Item>,
-) -> Result<(), OutOfMemory>
-    ensures { OnOk result (entries out.new.items
-        ≡ entries out.old.items ++ alias_word (name_bytes tag.now) way) }
-{
-    match way {
-        Way::Keyed => {
-            put_made(alloc, tag, out)?;
-            put_lone(alloc, ItemKind::Key, out)
-        }
-        Way::KeyText => Ok(()),
-        _ => put_made(alloc, tag, out),
-    }
-}
-
-/// Puts a name that means that group, read that way.
-pub(crate) fn put_inner(
-    alloc: Global,
-    group: u64,
-    way: Way,
-    node: &Node,
-    out: &mut Vec<Item>,
-) -> Result<(), OutOfMemory>
-    ensures { OnOk result (entries out.new.items
-        ≡ entries out.old.items ++ inner_word group way (docs_in node.now.parts.items)) }
-{
-    match way {
-        Way::Keyed => {
-            put_inner_use(alloc, group, node, out)?;
-            put_lone(alloc, ItemKind::Key, out)
-        }
-        Way::KeyText => Ok(()),
-        _ => put_inner_use(alloc, group, node, out),
-    }
-}
-
-/// Puts the use of the name, which means that group.
-fn put_inner_use(
-    alloc: Global,
-    group: u64,
-    node: &Node,
-    out: &mut Vec<Item>,
-) -> Result<(), OutOfMemory>
-    ensures { OnOk result (entries out.new.items
-        ≡ entries out.old.items ++ inner_word group Way.Whole (docs_in node.now.parts.items)) }
-{
-    let name = first_atom(node)?;
-    put_owned(Some(group), ItemKind::Name, name, Vec::new(alloc), out)
-}
-
-/// Puts that the made name of that tag then holds the value.
-pub(crate) fn put_keep(alloc: Global, tag: &Name, out: &mut Vec<Item>) -> Result<(), OutOfMemory>
-    ensures { OnOk result (entries out.new.items
-        ≡ entries out.old.items ++ spelled ItemKind.Keep (text (name_bytes tag.now))) }
-{
-    put_spelled(alloc, ItemKind::Keep, Atom::Text(tag.share()?), out)
-}
-
-/// The same, if one does.
-pub(crate) fn put_kept(
-    alloc: Global,
-    tag: Option<&Name>,
-    out: &mut Vec<Item>,
-) -> Result<(), OutOfMemory>
-    ensures { OnOk result (entries out.new.items
-        ≡ entries out.old.items ++ kept_word (option_map (λ tag. name_bytes tag.now) tag.entry)) }
-{
-    match tag {
-        Some(tag) => put_keep(alloc, tag, out),
-        None => Ok(()),
-    }
-}
-
-/// Puts the start of a call of that function of `babelHelpers`.
-pub(crate) fn put_helper_start(
-    alloc: Global,
-    helper: &str,
-    out: &mut Vec<Item>,
-) -> Result<(), OutOfMemory>
-    ensures { OnOk result (entries out.new.items ≡ entries out.old.items ++ helper_start helper.now) }
-{
-    put_call_start(alloc, out)?;
-    put_free(alloc, "babelHelpers", out)?;
-    put_member(alloc, helper, out)
-}
-
-/// Puts the read of the member of that name.
-pub(crate) fn put_member(alloc: Global, name: &str, out: &mut Vec<Item>) -> Result<(), OutOfMemory>
-    ensures { OnOk result (entries out.new.items ≡ entries out.old.items
-        ++ (spelled ItemKind.Str (text name.now) ++ spelled ItemKind.Get (flag false))) }
-{
-    put_spelled(
-        alloc,
-        ItemKind::Str,
-        Atom::Text(Name::new(alloc, name)?),
-        out,
-    )?;
-    put_spelled(alloc, ItemKind::Get, Atom::Flag(false), out)
-}
 
 /// Puts a decorator, read that way, which decorates the parameter at that place if it is one of a parameter.
 #[cycle(word)]
@@ -288,23 +165,6 @@ fn put_decorators_list(
     put_lone(facts.memory(), ItemKind::Close, out)
 }
 
-/// Puts the object that has an element: the class itself, or that of its instances.
-fn put_receiver(
-    alloc: Global,
-    class: &ToldUse,
-    is_static: bool,
-    out: &mut Vec<Item>,
-) -> Result<(), OutOfMemory>
-    ensures { OnOk result (entries out.new.items
-        ≡ entries out.old.items ++ receiver_word (use_view class.now) is_static) }
-{
-    put_used(alloc, class, out)?;
-    if is_static {
-        return Ok(());
-    }
-    put_member(alloc, "prototype", out)
-}
-
 /// Puts the key of the element that is called.
 #[cycle(word)]
 fn put_called_key(
@@ -336,24 +196,6 @@ fn put_subject(
 {
     put_receiver(facts.memory(), &call.class, call.is_static, out)?;
     put_called_key(facts, call, node, out)
-}
-
-/// Puts the empty text.
-fn put_no_text(alloc: Global, out: &mut Vec<Item>) -> Result<(), OutOfMemory>
-    ensures { OnOk result (entries out.new.items ≡ entries out.old.items ++ spelled ItemKind.Str (text [])) }
-{
-    put_spelled(alloc, ItemKind::Str, Atom::Text(Name::new(alloc, "")?), out)
-}
-
-/// Puts the description of an element: `void 0` of a field, and `null` of others.
-fn put_description(alloc: Global, is_field: bool, out: &mut Vec<Item>) -> Result<(), OutOfMemory>
-    ensures { OnOk result (entries out.new.items ≡ entries out.old.items ++ description_word is_field) }
-{
-    if is_field {
-        return put_void(alloc, out);
-    }
-    put_start(Kind::NullLiteral, Vec::new(alloc), out)?;
-    put_lone(alloc, ItemKind::Close, out)
 }
 
 /// Puts the call that an element of a class gives.
@@ -390,16 +232,6 @@ pub(crate) fn put_given(
     match call {
         Some(call) => put_calling(facts, call, node, out),
         None => Ok(()),
-    }
-}
-
-/// The tag by which the key of an element that gives such a call is kept.
-pub(crate) fn tag_of(call: &Option<ToldCall>) -> Option<&Name>
-    ensures { option_map (λ tag. name_bytes tag.now) result ≡ tag_of (option_map calling_view call.now) }
-{
-    match call {
-        Some(call) => call.tag.as_ref(),
-        None => None,
     }
 }
 

@@ -4,12 +4,10 @@ ghost use Rattle.oxt_tree.specs.Fields.{named};
 ghost use Rattle.oxt_tree.specs.View.{docs_in};
 ghost use Rattle.oxt_facts.specs.Entry.{detail, entries, lone};
 ghost use Rattle.oxt_forms.specs.Details.{start};
-ghost use Rattle.oxt_word.specs.Ways.{block_word, constructor_word, field_word, fields_word, key_text, keyed_word, keys_word, method_word, methods_word, opened_word, passed_word, statics_word};
-ghost use Rattle.oxt_word.specs.Whole.{class_expression_word, class_parts, class_word};
+ghost use Rattle.oxt_items.specs.Ways.{block_word, constructor_word, field_word, fields_word, key_text, keyed_word, keys_word, method_word, methods_word, opened_word, passed_word, statics_word};
+ghost use Rattle.oxt_items.specs.Whole.{class_expression_word, class_parts, class_word};
 ghost use Rattle.oxt_word.specs.Word.{all_fields, each_field};
 
-use crate::rule::Rule;
-use crate::way::Way;
 use crate::word::{put_field, put_fields, put_plain, put_whole};
 use oxt_facts::facts::Facts;
 use oxt_facts::item::{Binding, Item, ItemKind};
@@ -20,6 +18,8 @@ use oxt_forms::put::{
     field_atom, put_field_start, put_first, put_lone, put_number, put_open, put_private, put_start,
 };
 use oxt_grammar::field::Field;
+use oxt_items::rule::Rule;
+use oxt_items::way::Way;
 use oxt_tree::ids::OutOfMemory;
 use oxt_tree::tree::Node;
 use std::vec;

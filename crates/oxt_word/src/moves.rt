@@ -1,38 +1,35 @@
 //! The effect word of classes whose constructor puts more on the object than is written in it, and of fields whose values
 //! are put elsewhere.
-ghost use Rattle.std.specs.Prelude.{◌≡◌, ◌∷◌, [], ◌++◌, OnOk, codes, false, map, option_map};
-ghost use Rattle.oxt_facts.specs.Entry.{entries, spelled};
-ghost use Rattle.oxt_facts.specs.Told.{calling_view, gaining_view, moving_view, names_view};
-ghost use Rattle.oxt_forms.specs.Details.{start};
+ghost use Rattle.std.specs.Prelude.{◌≡◌, ◌++◌, OnOk, codes, false, map, option_map};
+ghost use Rattle.oxt_facts.specs.Entry.{entries};
+ghost use Rattle.oxt_facts.specs.Told.{calling_view, gaining_view, moving_view};
 ghost use Rattle.oxt_forms.specs.Leaves.{dropped};
 ghost use Rattle.oxt_grammar.specs.declared.kind.Kind.TheVariants as kind;
-ghost use Rattle.oxt_tree.specs.Doc.{text};
 ghost use Rattle.oxt_tree.specs.Names.{name_bytes};
 ghost use Rattle.oxt_tree.specs.View.{docs_in};
-ghost use Rattle.oxt_word.specs.Calls.{element_text, tag_of};
-ghost use Rattle.oxt_word.specs.Classes.{calling_statics, element_key, empty_field, empty_fields, field_put, first_word, gaining_constructor, gaining_word, head_word, keeping_keys, key_at_put, later_word, left_word, made_constructor, moved_key, moving_word, passing, property_put, property_puts, put_key_word, puts_word, tail_word};
-ghost use Rattle.oxt_word.specs.RuleOf.{rule_of};
-ghost use Rattle.oxt_word.specs.Word.{all_fields, each_field, own_word};
+ghost use Rattle.oxt_items.specs.Calls.{element_text, tag_of};
+ghost use Rattle.oxt_items.specs.Classes.{calling_statics, element_key, empty_field, empty_fields, field_put, first_word, gaining_constructor, gaining_word, head_word, keeping_keys, key_at_put, later_word, left_word, made_constructor, moved_key, moving_word, put_key_word, puts_word, tail_word};
+ghost use Rattle.oxt_items.specs.RuleOf.{rule_of};
+ghost use Rattle.oxt_items.specs.Read.{own_word};
+ghost use Rattle.oxt_word.specs.Word.{all_fields, each_field};
 
-use crate::calls::{put_element_text, put_given, put_keep, put_kept_key, tag_of};
+use crate::calls::{put_element_text, put_given, put_kept_key};
 use crate::class::put_element_key;
-use crate::enums::{put_operation, put_text, put_use};
-use crate::namespaces::put_made;
-use crate::rule::Rule;
-use crate::way::Way;
 use crate::word::{put_field, put_fields, put_own, put_whole};
 use oxt_facts::facts::Facts;
-use oxt_facts::item::{Atom, Item, ItemKind};
-use oxt_facts::told::{ToldClass, ToldField, ToldName};
-use oxt_forms::put::{
-    field_atom, put_dropped, put_field_start, put_first, put_lone, put_spelled, put_start,
-};
+use oxt_facts::item::{Item, ItemKind};
+use oxt_facts::told::{ToldClass, ToldField};
+use oxt_forms::put::{field_atom, put_dropped, put_field_start, put_first, put_lone, put_start};
 use oxt_grammar::field::Field;
 use oxt_grammar::kind::Kind;
+use oxt_items::calls::{put_keep, tag_of};
+use oxt_items::moves::{put_constructor_start, put_empty_fields, put_passing, put_properties};
+use oxt_items::namespaces::put_made;
+use oxt_items::rule::Rule;
+use oxt_items::way::Way;
 use oxt_tree::ids::OutOfMemory;
 use oxt_tree::name::Name;
 use oxt_tree::tree::Node;
-use std::alloc::Global;
 use std::vec;
 
 /// Puts the body of a class that has more in it than is written there, read that way.
@@ -164,24 +161,6 @@ fn put_made_constructor(
     put_lone(facts.memory(), ItemKind::Close, out)
 }
 
-/// Puts the start of a constructor that is made.
-fn put_constructor_start(alloc: Global, out: &mut Vec<Item>) -> Result<(), OutOfMemory>
-    ensures { OnOk result (entries out.new.items
-        ≡ entries out.old.items ++ start kind.MethodDefinition (text (codes "constructor") ∷ [])) }
-{
-    put_operation(alloc, Kind::MethodDefinition, "constructor", out)
-}
-
-/// Puts that a constructor passes on what it is given, where its class extends another.
-fn put_passing(alloc: Global, is_derived: bool, out: &mut Vec<Item>) -> Result<(), OutOfMemory>
-    ensures { OnOk result (entries out.new.items ≡ entries out.old.items ++ passing is_derived) }
-{
-    if is_derived {
-        return put_lone(alloc, ItemKind::PassOn, out);
-    }
-    Ok(())
-}
-
 /// Puts what the constructor puts on the object: parameters, and the values of fields that move into it.
 #[cycle(word)]
 fn put_puts(
@@ -195,57 +174,6 @@ fn put_puts(
 {
     put_properties(facts.memory(), class.properties.as_slice(), out)?;
     put_fields(facts, node.kind.rows(), &node.parts, Way::Puts, out)
-}
-
-/// Puts that each of the parameters is put on the object.
-#[tactic(auto, using(crate::proofs::Gains::one_property, crate::proofs::Gains::no_property))]
-fn put_properties(
-    alloc: Global,
-    properties: &[ToldName],
-    out: &mut Vec<Item>,
-) -> Result<(), OutOfMemory>
-    ensures { OnOk result (entries out.new.items
-        ≡ entries out.old.items ++ property_puts (names_view properties.now)) }
-{
-    for property in properties {
-        put_property(alloc, property, out)?;
-    }
-    Ok(())
-}
-
-/// Puts that the parameter is put on the object, under its name.
-fn put_property(alloc: Global, property: &ToldName, out: &mut Vec<Item>) -> Result<(), OutOfMemory>
-    ensures { OnOk result (entries out.new.items ≡ entries out.old.items
-        ++ property_put (name_bytes property.now.name) property.now.group) }
-{
-    put_lone(alloc, ItemKind::This, out)?;
-    put_text(alloc, &property.name, out)?;
-    put_use(alloc, &property.name, property.group, out)?;
-    put_lone(alloc, ItemKind::Put, out)?;
-    put_lone(alloc, ItemKind::Eval, out)
-}
-
-/// Puts an empty field of each of these names.
-#[tactic(auto, using(crate::proofs::Gains::one_field, crate::proofs::Gains::no_field))]
-fn put_empty_fields(alloc: Global, names: &[Name], out: &mut Vec<Item>) -> Result<(), OutOfMemory>
-    ensures { OnOk result (entries out.new.items
-        ≡ entries out.old.items ++ empty_fields (map name_bytes names.now)) }
-{
-    for name in names {
-        put_empty_field(alloc, name, out)?;
-    }
-    Ok(())
-}
-
-/// Puts an empty field of that name.
-fn put_empty_field(alloc: Global, name: &Name, out: &mut Vec<Item>) -> Result<(), OutOfMemory>
-    ensures { OnOk result (entries out.new.items
-        ≡ entries out.old.items ++ empty_field false (spelled ItemKind.Str (text (name_bytes name.now)))) }
-{
-    put_field_start(alloc, false, false, out)?;
-    put_text(alloc, name, out)?;
-    put_lone(alloc, ItemKind::Nil, out)?;
-    put_lone(alloc, ItemKind::Define, out)
 }
 
 /// Puts a constructor up to that many statements of its body.

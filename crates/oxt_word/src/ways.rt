@@ -3,16 +3,16 @@ ghost use Rattle.std.specs.Prelude.{◌≡◌, ◌++◌, OnOk, codes};
 ghost use Rattle.oxt_facts.specs.Entry.{entries};
 ghost use Rattle.oxt_grammar.specs.Keys.{key_of};
 ghost use Rattle.oxt_tree.specs.View.{docs_in};
-ghost use Rattle.oxt_word.specs.Ways.{bound_word, entered_word, target_word};
+ghost use Rattle.oxt_items.specs.Ways.{bound_word, entered_word, target_word};
 ghost use Rattle.oxt_word.specs.Word.{all_fields, each_field};
 
-use crate::rule::Rule;
-use crate::way::Way;
 use crate::word::{put_declarator, put_field, put_plain, put_whole};
 use oxt_facts::facts::Facts;
 use oxt_facts::item::{Binding, Item, ItemKind};
 use oxt_forms::put::{put_bind, put_in, put_lone};
 use oxt_grammar::field::Field;
+use oxt_items::rule::Rule;
+use oxt_items::way::Way;
 use oxt_tree::ids::OutOfMemory;
 use oxt_tree::tree::Node;
 

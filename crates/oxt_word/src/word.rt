@@ -5,35 +5,30 @@ ghost use Rattle.oxt_tree.specs.View.{docs_in, node_doc, part_doc};
 ghost use Rattle.oxt_facts.specs.Entry.{entries};
 ghost use Rattle.oxt_forms.specs.Details.{is_read};
 ghost use Rattle.oxt_forms.specs.Leaves.{dropped};
-ghost use Rattle.oxt_word.specs.Node.{opened};
-ghost use Rattle.oxt_word.specs.RuleOf.{rule_of};
-ghost use Rattle.oxt_word.specs.Ways.{exported_word};
-ghost use Rattle.oxt_word.specs.Whole.{arrow_word, assignment_word, body_word, call_word, declarator_word, function_word, get_word, if_word, logical_word, object_word, sequence_word, variables_word, whole_word};
-ghost use Rattle.oxt_word.specs.Word.{all_fields, each_field, each_said, fields_said, last_said, list_word, node_word, own_word, said, some_said, turns_said, way_word, word};
+ghost use Rattle.oxt_items.specs.Node.{opened};
+ghost use Rattle.oxt_items.specs.RuleOf.{rule_of};
+ghost use Rattle.oxt_items.specs.Ways.{exported_word};
+ghost use Rattle.oxt_items.specs.Whole.{arrow_word, assignment_word, body_word, call_word, declarator_word, function_word, get_word, if_word, logical_word, object_word, sequence_word, variables_word, whole_word};
+ghost use Rattle.oxt_items.specs.Read.{list_word, node_word, own_word, way_word};
+ghost use Rattle.oxt_word.specs.Word.{all_fields, each_field, each_said, fields_said, last_said, said, some_said, turns_said, word};
 ghost use Rattle.oxt_grammar.specs.Keys.{key_of};
 
 use crate::accessors::put_accessor;
-use crate::calls::{
-    put_alias, put_applied, put_called, put_decorator, put_injected, put_inner, put_through,
-};
+use crate::calls::{put_applied, put_called, put_decorator, put_injected, put_through};
 use crate::class::{
     put_class, put_class_expression, put_constructor, put_instance_fields, put_key_text, put_keyed,
     put_keys, put_methods, put_opened, put_passed, put_statics,
 };
 use crate::decorated::{put_decorated, put_default_class, put_titled};
-use crate::enums::{is_exported, put_bare, put_enum, put_inlined, put_member};
-use crate::gone::{is_gone, put_gone};
+use crate::enums::{put_enum, put_member};
 use crate::modules::{
     put_export_assignment, put_export_list, put_import, put_import_equals, put_listless,
-    put_program, put_qualified, put_quasi, put_required,
+    put_program, put_qualified, put_required,
 };
 use crate::moves::{
     put_ending, put_gaining, put_head, put_left, put_moving, put_opening, put_put_key, put_tail,
 };
 use crate::namespaces::{put_export, put_namespace, put_stored};
-use crate::rule::Rule;
-use crate::rule_of::rule_of;
-use crate::way::Way;
 use crate::ways::{put_bound, put_entered, put_target};
 use oxt_facts::facts::Facts;
 use oxt_facts::groups::number_groups;
@@ -53,6 +48,13 @@ use oxt_forms::put::{
 use oxt_grammar::field::Field;
 use oxt_grammar::holds::Row;
 use oxt_grammar::kind::Kind;
+use oxt_items::calls::{put_alias, put_inner};
+use oxt_items::enums::{is_exported, put_bare, put_inlined};
+use oxt_items::gone::{is_gone, put_gone};
+use oxt_items::modules::put_quasi;
+use oxt_items::rule::Rule;
+use oxt_items::rule_of::rule_of;
+use oxt_items::way::Way;
 use oxt_tree::fields::place_of;
 use oxt_tree::ids::OutOfMemory;
 use oxt_tree::tree::{Node, Part};

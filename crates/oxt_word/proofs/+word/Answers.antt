@@ -4,8 +4,9 @@ use Rattle.oxt_word.proofs.Loops.{field_none, field_past, field_some, no_more_ro
 use Rattle.oxt_facts.specs.Entry.{entries}
 use Rattle.oxt_tree.specs.View.{docs_in}
 use Rattle.oxt_facts.specs.Inside.{known_or}
-use Rattle.oxt_word.specs.RuleOf.{rule_of}
-use Rattle.oxt_word.specs.Word.{all_fields, each_field, node_word}
+use Rattle.oxt_items.specs.RuleOf.{rule_of}
+use Rattle.oxt_items.specs.Read.{node_word}
+use Rattle.oxt_word.specs.Word.{all_fields, each_field}
 use Rattle.oxt_word.proofs.+word.Goals as goal
 
 pub word::put_node-returns-in-Some : goal.word::put_node-returns-in-Some
