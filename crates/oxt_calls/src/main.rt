@@ -1,24 +1,47 @@
-//! Public calls that no row of a table reaches: those of trees and texts, sources and sinks, options, diagnostics and effect words. Each is
-//! made once, with ample memory, and what it answers is printed. Standard input has the trees and texts on which
-//! they are made.
+//! Public calls that no row of a table reaches: those of trees and texts, sources and sinks, options, diagnostics and effect words; of
+//! made names, tables of scopes, plans, constants, owners and members that are inlined; of the stores, the context of a walk, its
+//! hooks and the passes. Each is made once, with ample memory, and what it answers is printed. Standard input has the trees
+//! and texts on which they are made.
 #![tactic(auto)]
 
+mod both;
+mod context;
 mod diagnostics;
+mod inlines;
 mod io;
+mod keys;
+mod names;
 mod options;
+mod owners;
+mod passes;
 mod places;
+mod plans;
+mod scoping;
+mod stores;
 mod supers;
+mod symbols;
 mod targets;
 mod texts;
 mod trees;
 mod visits;
 mod words;
 
+use crate::both::print_both;
+use crate::context::print_context;
 use crate::diagnostics::print_diagnostics;
+use crate::inlines::print_inlines;
 use crate::io::print_io;
+use crate::keys::print_keys;
+use crate::names::print_names;
 use crate::options::print_options;
+use crate::owners::print_owners;
+use crate::passes::print_passes;
 use crate::places::print_places;
+use crate::plans::print_plans;
+use crate::scoping::print_scoping;
+use crate::stores::print_stores;
 use crate::supers::print_supers;
+use crate::symbols::print_symbols;
 use crate::targets::print_targets;
 use crate::texts::print_texts;
 use crate::trees::print_trees;
@@ -43,6 +66,17 @@ fn main(rt: HostRuntime) -> Result<()> {
 
 /// All sections.
 fn print_all(alloc: Global, table: &Table, lines: &mut Lines) -> std::result::Result<(), Stopped> {
+    print_of_trees(alloc, table, lines)?;
+    print_of_names(alloc, table, lines)?;
+    print_of_walks(alloc, table, lines)
+}
+
+/// The calls of trees and texts, sources and sinks, options, diagnostics and effect words.
+fn print_of_trees(
+    alloc: Global,
+    table: &Table,
+    lines: &mut Lines,
+) -> std::result::Result<(), Stopped> {
     print_options(alloc, lines)?;
     print_diagnostics(alloc, lines)?;
     print_words(alloc, lines)?;
@@ -53,4 +87,31 @@ fn print_all(alloc: Global, table: &Table, lines: &mut Lines) -> std::result::Re
     print_places(alloc, table, lines)?;
     print_visits(alloc, table, lines)?;
     print_supers(alloc, table, lines)
+}
+
+/// The calls of names, tables of scopes, plans, constants and owners.
+fn print_of_names(
+    alloc: Global,
+    table: &Table,
+    lines: &mut Lines,
+) -> std::result::Result<(), Stopped> {
+    print_names(alloc, table, lines)?;
+    print_scoping(alloc, table, lines)?;
+    print_plans(alloc, lines)?;
+    print_symbols(alloc, table, lines)?;
+    print_owners(alloc, table, lines)?;
+    print_inlines(alloc, table, lines)
+}
+
+/// The calls of the stores, the context of a walk, its hooks and the passes.
+fn print_of_walks(
+    alloc: Global,
+    table: &Table,
+    lines: &mut Lines,
+) -> std::result::Result<(), Stopped> {
+    print_stores(alloc, lines)?;
+    print_context(alloc, table, lines)?;
+    print_keys(alloc, table, lines)?;
+    print_passes(alloc, table, lines)?;
+    print_both(alloc, table, lines)
 }
