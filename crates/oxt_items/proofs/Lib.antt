@@ -1,3 +1,4 @@
 pub mod Gains
+pub mod Joined
 pub mod Noted
 pub mod Puts

@@ -54,13 +54,17 @@ abbrev pub put_word : Member → OneField → List Entry
 put_word m c =
     owner_word m ++ (spelled item.Str (text m.name) ++ (value_word m m.value c ++ lone item.Put))
 
+-- the owner, before a value by which the member can be looked up
+abbrev pub reverse_owner : Member → List Entry
+reverse_owner m = if m.is_reversed then owner_word m else []
+
+-- the write of its name under that value
+abbrev pub reverse_put : Member → List Entry
+reverse_put m = if m.is_reversed then spelled item.Str (text m.name) ++ lone item.Put else []
+
 -- A member is that write, and where it can be looked up by its value the write of its name under what was written.
 abbrev pub member_word : Member → OneField → List Entry
-member_word m c =
-    (if m.is_reversed
-    then owner_word m ++ (put_word m c ++ (spelled item.Str (text m.name) ++ lone item.Put))
-    else put_word m c)
-    ++ lone item.Eval
+member_word m c = reverse_owner m ++ (put_word m c ++ (reverse_put m ++ lone item.Eval))
 
 -- The enum is declared as `var` where the program's own scope declares it and it is not exported.
 abbrev pub is_var : Block → Bool → Bool

@@ -26,10 +26,17 @@ namespace_call b c =
     ++ (detailed item.InMade (text b.tag) (flag false ∷ [])
     ++ (c (codes "body") way.Whole ++ (lone item.Out ++ lone item.Eval)))
 
--- A block is that call; a first one declares the namespace's name before it, exported or not.
+-- the way in which the namespace's name is declared before a block, exported or not: by a first one alone
+abbrev pub declared_way : Namespace → Bool → Option Way
+declared_way b x = if b.is_first then Some (way.Bound binding.Let x) else None
+
+abbrev pub declared_word : Option Way → OneField → List Entry
+declared_word None c = []
+declared_word (Some w) c = c (codes "id") w
+
+-- A block is that call, behind the declaration of the namespace's name, if that is due.
 abbrev pub namespace_word : Namespace → Bool → OneField → List Entry
-namespace_word b x c =
-    if b.is_first then c (codes "id") (way.Bound binding.Let x) ++ namespace_call b c else namespace_call b c
+namespace_word b x c = declared_word (declared_way b x) c ++ namespace_call b c
 
 -- the name is put on the block's object, under itself
 abbrev pub name_put : List ℕ → List ℕ → Option ℕ → List Entry

@@ -113,6 +113,29 @@ pub fn put_kept_there(
     Ok(())
 }
 
+/// Puts what is called behind a class: the decorators of its elements, and then its own.
+pub fn put_calls(
+    of_elements: Vec<Item>,
+    own: Vec<Item>,
+    out: &mut Vec<Item>,
+) -> Result<(), OutOfMemory>
+    ensures { OnOk result (entries out.new.items
+        ≡ entries out.old.items ++ (entries of_elements.items ++ entries own.items)) }
+{
+    put_all(of_elements, out)?;
+    put_all(own, out)
+}
+
+/// Puts the items behind those that were put.
+#[tactic(auto, using(crate::proofs::Joined::joined))]
+fn put_all(items: Vec<Item>, out: &mut Vec<Item>) -> Result<(), OutOfMemory>
+    ensures { OnOk result (entries out.new.items ≡ entries out.old.items ++ entries items.items) }
+{
+    let mut items = items;
+    out.append(&mut items)?;
+    Ok(())
+}
+
 /// Puts the start of an assignment to the name.
 pub fn put_assignment_start(
     alloc: Global,

@@ -7,7 +7,7 @@ ghost use Rattle.oxt_names.specs.Constant.{constant_view};
 ghost use Rattle.oxt_tree.specs.Doc.{flag, text};
 ghost use Rattle.oxt_tree.specs.Names.{name_bytes};
 ghost use Rattle.oxt_tree.specs.View.{docs_in};
-ghost use Rattle.oxt_items.specs.Enums.{bare_word, block_binding, following_word, inlined_word, is_exported, is_key, is_var, literal_word, number_literal, object_of, owner_word, read_word, return_word, use_word};
+ghost use Rattle.oxt_items.specs.Enums.{bare_word, block_binding, following_word, inlined_word, is_exported, is_key, is_var, literal_word, number_literal, object_of, owner_word, read_word, return_word, reverse_owner, reverse_put, use_word};
 ghost use Rattle.oxt_forms.specs.Details.{start};
 
 use crate::way::Way;
@@ -126,6 +126,37 @@ pub fn put_owner(alloc: Global, member: &ToldMember, out: &mut Vec<Item>) -> Res
         ≡ entries out.old.items ++ owner_word (member_view member.now)) }
 {
     put_use(alloc, &member.owner, Some(member.block), out)
+}
+
+/// Puts the same before a value by which the member can be looked up.
+pub fn put_reverse_owner(
+    alloc: Global,
+    member: &ToldMember,
+    out: &mut Vec<Item>,
+) -> Result<(), OutOfMemory>
+    ensures { OnOk result (entries out.new.items
+        ≡ entries out.old.items ++ reverse_owner (member_view member.now)) }
+{
+    if member.is_reversed {
+        return put_owner(alloc, member, out);
+    }
+    Ok(())
+}
+
+/// Puts the write of the member's name under that value.
+pub fn put_reverse(
+    alloc: Global,
+    member: &ToldMember,
+    out: &mut Vec<Item>,
+) -> Result<(), OutOfMemory>
+    ensures { OnOk result (entries out.new.items
+        ≡ entries out.old.items ++ reverse_put (member_view member.now)) }
+{
+    if !member.is_reversed {
+        return Ok(());
+    }
+    put_text(alloc, &member.name, out)?;
+    put_lone(alloc, ItemKind::Put, out)
 }
 
 /// Puts a text.

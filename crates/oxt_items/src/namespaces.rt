@@ -4,16 +4,27 @@ ghost use Rattle.oxt_facts.specs.Entry.{detailed, entries, spelled};
 ghost use Rattle.oxt_facts.specs.Told.{names_view, namespace_view};
 ghost use Rattle.oxt_tree.specs.Doc.{flag, text};
 ghost use Rattle.oxt_tree.specs.Names.{name_bytes};
-ghost use Rattle.oxt_items.specs.Namespaces.{based_word, name_put, name_puts, namespace_object};
+ghost use Rattle.oxt_items.specs.Namespaces.{based_word, declared_way, name_put, name_puts, namespace_object};
 
 use crate::enums::{put_text, put_use};
-use oxt_facts::item::{Atom, Item, ItemKind};
+use crate::way::Way;
+use oxt_facts::item::{Atom, Binding, Item, ItemKind};
 use oxt_facts::told::{ToldName, ToldNamespace};
 use oxt_forms::put::{put_detailed, put_lone, put_spelled};
 use oxt_tree::ids::OutOfMemory;
 use oxt_tree::name::Name;
 use std::alloc::Global;
 use std::vec;
+
+/// The way in which the name of the namespace is declared before the block, which is exported or not: by a first block alone.
+pub fn declared_way(block: &ToldNamespace, exported: bool) -> Option<Way>
+    ensures { result ≡ declared_way (namespace_view block.now) exported }
+{
+    if block.is_first {
+        return Some(Way::Bound(Binding::Let, exported));
+    }
+    None
+}
 
 /// Puts the object of the namespace.
 pub fn put_object(

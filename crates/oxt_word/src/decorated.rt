@@ -16,8 +16,8 @@ use oxt_grammar::field::Field;
 use oxt_grammar::kind::Kind;
 use oxt_items::calls::{put_helper_start, put_keep, put_kept, put_used};
 use oxt_items::decorated::{
-    put_assignment_start, put_default_name, put_exported_behind, put_inner_bind, put_kept_there,
-    put_made_bind,
+    put_assignment_start, put_calls, put_default_name, put_exported_behind, put_inner_bind,
+    put_kept_there, put_made_bind,
 };
 use oxt_items::enums::is_exported;
 use oxt_items::metadata::put_metadata;
@@ -238,8 +238,11 @@ fn put_decorated_class(
         ++ decorated_class facts.now (decorating_view class.now) way (each_field facts.now node.now)) }
 {
     put_set_class(facts, class, node, out)?;
-    put_calls_behind(facts, class.has_calls, way, node, out)?;
-    put_own_call(facts, class, node, out)?;
+    let mut of_elements = Vec::new(facts.memory());
+    put_calls_behind(facts, class.has_calls, way, node, &mut of_elements)?;
+    let mut own = Vec::new(facts.memory());
+    put_own_call(facts, class, node, &mut own)?;
+    put_calls(of_elements, own, out)?;
     put_exported_behind(facts.memory(), is_exported(way), &class.name, out)
 }
 

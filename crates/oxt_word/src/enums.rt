@@ -14,7 +14,7 @@ use oxt_grammar::field::Field;
 use oxt_grammar::kind::Kind;
 use oxt_items::enums::{
     block_binding, put_entry_of, put_following, put_literal, put_object_of, put_operation,
-    put_owner, put_return, put_text, put_use,
+    put_owner, put_return, put_reverse, put_reverse_owner, put_text, put_use,
 };
 use oxt_items::way::Way;
 use oxt_tree::ids::OutOfMemory;
@@ -83,14 +83,9 @@ pub(crate) fn put_member(
         ≡ entries out.old.items
         ++ member_word (member_view member.now) (each_field facts.now node.now)) }
 {
-    if member.is_reversed {
-        put_owner(facts.memory(), member, out)?;
-        put_value_put(facts, member, node, out)?;
-        put_text(facts.memory(), &member.name, out)?;
-        put_lone(facts.memory(), ItemKind::Put, out)?;
-        return put_lone(facts.memory(), ItemKind::Eval, out);
-    }
+    put_reverse_owner(facts.memory(), member, out)?;
     put_value_put(facts, member, node, out)?;
+    put_reverse(facts.memory(), member, out)?;
     put_lone(facts.memory(), ItemKind::Eval, out)
 }
 

@@ -8,12 +8,12 @@ ghost use Rattle.oxt_word.specs.Word.{each_field};
 
 use crate::word::put_field;
 use oxt_facts::facts::Facts;
-use oxt_facts::item::{Binding, Item, ItemKind};
+use oxt_facts::item::{Item, ItemKind};
 use oxt_facts::told::{ToldExport, ToldNamespace, ToldStored};
 use oxt_forms::put::put_lone;
 use oxt_grammar::field::Field;
 use oxt_items::enums::put_text;
-use oxt_items::namespaces::{put_entry, put_made, put_names, put_object};
+use oxt_items::namespaces::{declared_way, put_entry, put_made, put_names, put_object};
 use oxt_items::way::Way;
 use oxt_tree::ids::OutOfMemory;
 use oxt_tree::tree::Node;
@@ -31,10 +31,8 @@ pub(crate) fn put_namespace(
         ≡ entries out.old.items
         ++ namespace_word (namespace_view block.now) exported (each_field facts.now node.now)) }
 {
-    if block.is_first {
-        let way = Way::Bound(Binding::Let, exported);
+    if let Some(way) = declared_way(block, exported) {
         put_field(facts, node, Field::Id, way, out)?;
-        return put_call(facts, block, node, out);
     }
     put_call(facts, block, node, out)
 }
