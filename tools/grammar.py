@@ -774,7 +774,7 @@ def order_source(g):
     return f"""// {NOTE}
 //! The order in which the members of an object are written.
 ghost use Rattle.std.specs.Prelude.{{◌≡◌}};
-ghost use Rattle.oxt_json_write.specs.Order.{{{part_names("order_of", list(g.kinds))}}};
+ghost use Rattle.oxt_json.specs.Order.{{{part_names("order_of", list(g.kinds))}}};
 
 use crate::slot::Slot;
 use crate::slot::Slot::{{End, Field, Start, Type}};
@@ -802,8 +802,8 @@ def order_spec(g):
 use Rattle.std.specs.Prelude.{{List, [], ◌∷◌}}
 use Rattle.oxt_grammar.specs.declared.kind.Kind.{{Kind}}
 use Rattle.oxt_grammar.specs.declared.kind.Kind.TheVariants as kind
-use Rattle.oxt_json_write.specs.declared.slot.Slot.{{Slot}}
-use Rattle.oxt_json_write.specs.declared.slot.Slot.TheVariants as slot
+use Rattle.oxt_json.specs.declared.slot.Slot.{{Slot}}
+use Rattle.oxt_json.specs.declared.slot.Slot.TheVariants as slot
 
 {lines}"""
 
@@ -816,8 +816,8 @@ use Rattle.std.proofs.Common.{{refl}}
 use Rattle.oxt_grammar.specs.Rows.{{row_of}}
 use Rattle.oxt_grammar.specs.declared.kind.Kind.{{Kind}}
 use Rattle.oxt_grammar.specs.declared.kind.Kind.TheVariants as kind
-use Rattle.oxt_json_write.proofs.Insertion.{{IsInserted}}
-use Rattle.oxt_json_write.specs.Order.{{order_of}}
+use Rattle.oxt_json.proofs.Insertion.{{IsInserted}}
+use Rattle.oxt_json.specs.Order.{{order_of}}
 
 pub ordered : (k : Kind) → IsInserted (row_of k) (order_of k)
 unfolding row_of order_of
@@ -859,9 +859,9 @@ def main():
         table + "proofs/EachKind.antt": each_kind_proof(g),
         table + "proofs/EachField.antt": each_field_proof(g),
         "docs/GRAMMAR.md": grammar_doc(g),
-        "crates/oxt_json_write/src/order.rt": order_source(g),
-        "crates/oxt_json_write/specs/Order.antt": order_spec(g),
-        "crates/oxt_json_write/proofs/InOrder.antt": order_proof(g),
+        "crates/oxt_json/src/order.rt": order_source(g),
+        "crates/oxt_json/specs/Order.antt": order_spec(g),
+        "crates/oxt_json/proofs/InOrder.antt": order_proof(g),
         "crates/oxt_declares/src/role_of.rt": roles_source(g),
         "crates/oxt_declares/specs/RoleOf.antt": roles_spec(g),
         "crates/oxt_items/src/rule_of.rt": word_rules_source(g),

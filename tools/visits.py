@@ -1,8 +1,8 @@
 #!/usr/bin/env python3
-"""Writes crates/oxt_visits/stdin, a tree that has each kind of the grammar, and crates/oxt_visits/stdout, the hooks that a
-walk runs on it by another reading of the rules.
+"""Writes into crates/oxt_calls/stdin a tree that has each kind of the grammar, and into crates/oxt_calls/stdout the hooks that a
+walk runs on it by another reading of the rules. What stands there beside these stays.
 
-    tools/visits.py           writes the files
+    tools/visits.py           writes into the files
     tools/visits.py --check   writes nothing, and fails where one of them is not up to date
 """
 import json
@@ -11,7 +11,9 @@ import sys
 
 from grammar import ROOT, Grammar, write
 
-FOLDER = "crates/oxt_visits"
+FOLDER = "crates/oxt_calls"
+TREE = '"a node of each kind": '
+HEADING = "hooks of a walk, "
 NODES = ("Node", "NodeOrNull", "Narrowed")
 LISTS = ("List", "ListOfNullable", "ListOrNull")
 
@@ -211,15 +213,32 @@ def without_numbers(value):
     return {k: without_numbers(v) for k, v in value.items() if k != "number"} if isinstance(value, dict) else value
 
 
+def read(name):
+    with open(os.path.join(ROOT, FOLDER, name), encoding="utf-8") as file:
+        return file.read().splitlines()
+
+
+def with_tree(table, data):
+    """The table, one tree a line, in which the tree is that one."""
+    place = next(i for i, line in enumerate(table) if line.startswith(TREE))
+    return [*table[:place], TREE + data + ",", *table[place + 1 :]]
+
+
+def with_lines(printed, lines):
+    """What is printed up to the heading, and these lines behind it."""
+    place = next(i for i, line in enumerate(printed) if line.startswith(HEADING))
+    return printed[: place + 1] + lines
+
+
 def main():
     with open(os.path.join(ROOT, "grammar/grammar.txt"), encoding="utf-8") as source:
         grammar = Grammar(source.read())
     tree = Trees(grammar).of_all_kinds()
     lines = Visits(grammar).of_program(tree)
     data = json.dumps(without_numbers(tree), separators=(",", ":"))
-    files = {"stdin": data + "\n", "stdout": "\n".join(lines) + "\n"}
+    files = {"stdin": with_tree(read("stdin"), data), "stdout": with_lines(read("stdout"), lines)}
     check = "--check" in sys.argv[1:]
-    sys.exit(0 if all([write(os.path.join(FOLDER, name), text, check) for name, text in files.items()]) else 1)
+    sys.exit(0 if all([write(os.path.join(FOLDER, name), "\n".join(text) + "\n", check) for name, text in files.items()]) else 1)
 
 
 if __name__ == "__main__":

@@ -1,12 +1,14 @@
 //! Public calls that no row of a table reaches: those of trees and texts, sources and sinks, options, diagnostics and effect words; of
 //! made names, tables of scopes, plans, constants, owners and members that are inlined; of the stores, the context of a walk, its
-//! hooks and the passes. Each is made once, with ample memory, and what it answers is printed. Standard input has the trees
+//! hooks and the passes. Each is made once, with ample memory, and what it answers is printed. Last come the hooks that run on a
+//! tree with a node of each kind. Standard input has the trees
 //! and texts on which they are made.
 #![tactic(auto)]
 
 mod both;
 mod context;
 mod diagnostics;
+mod hooks;
 mod inlines;
 mod io;
 mod keys;
@@ -16,6 +18,7 @@ mod owners;
 mod passes;
 mod places;
 mod plans;
+mod recorder;
 mod scoping;
 mod stores;
 mod supers;
@@ -29,6 +32,7 @@ mod words;
 use crate::both::print_both;
 use crate::context::print_context;
 use crate::diagnostics::print_diagnostics;
+use crate::hooks::print_hooks;
 use crate::inlines::print_inlines;
 use crate::io::print_io;
 use crate::keys::print_keys;
@@ -113,5 +117,6 @@ fn print_of_walks(
     print_context(alloc, table, lines)?;
     print_keys(alloc, table, lines)?;
     print_passes(alloc, table, lines)?;
-    print_both(alloc, table, lines)
+    print_both(alloc, table, lines)?;
+    print_hooks(alloc, table, lines)
 }

@@ -1,7 +1,6 @@
 //! Texts that are read as trees, or are none, and trees that are written.
 
-use oxt_json::{ReadFault, read_tree};
-use oxt_json_write::write_tree;
+use oxt_json::{ReadFault, read_tree, write_tree};
 use oxt_lines::lines::Lines;
 use oxt_lines::nodes::tree_of;
 use oxt_lines::source::outline_of;

@@ -4,7 +4,7 @@ use crate::case::put_json;
 use crate::pieces::{Piece, put};
 use crate::told::listed_plan;
 use oxt_ctx::context::TraverseCtx;
-use oxt_json_write::write_tree;
+use oxt_json::write_tree;
 use oxt_lower::pass::TypeScriptEnum;
 use oxt_options::options::{DecoratorOptions, Module, TypeScriptOptions};
 use oxt_options::plan::Plan;

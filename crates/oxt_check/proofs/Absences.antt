@@ -26,7 +26,7 @@ use Rattle.oxt_search.specs.First.{first}
 use Rattle.oxt_tree.specs.Doc.{Doc, Docs}
 use Rattle.oxt_tree.specs.Fields.{is_kind, is_set, named}
 use Rattle.oxt_tree.specs.Syntax.{is_type_only}
-use Rattle.oxt_unbuilt.specs.Dropped.{is_dropped_by}
+use Rattle.oxt_declares.specs.Dropped.{is_dropped_by}
 
 -- ---- of truth values
 

@@ -1,7 +1,7 @@
 -- The first captured name of a program, by all that captures.
 use Rattle.std.specs.Prelude.{ℕ, Bool, nat_lt, if◌then◌else◌, Option, None, Some, option_map}
 use Rattle.oxt_check.specs.declared.capture.NameAt.{NameAt}
-use Rattle.oxt_decorator_checks.specs.Moved.{decorator_capture}
+use Rattle.oxt_class_checks.specs.Moved.{decorator_capture}
 use Rattle.oxt_enum_checks.specs.Shadows.{Shadow, shadowed}
 use Rattle.oxt_faults.specs.AllCaptured.{all_captured}
 use Rattle.oxt_faults.specs.Captured.{Capture}

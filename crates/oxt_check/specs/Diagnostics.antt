@@ -23,7 +23,7 @@ use Rattle.oxt_tree.specs.Syntax.{is_definition_file}
 use Rattle.oxt_tree.specs.declared.diagnostic.DiagnosticKind.{DiagnosticKind}
 use Rattle.oxt_tree.specs.declared.diagnostic.DiagnosticKind.TheVariants as diagnostic
 use Rattle.oxt_tree.specs.declared.diagnostic.OxcDiagnostic.{OxcDiagnostic}
-use Rattle.oxt_unbuilt.specs.Dropped.{is_dropped_by, keeps_decorators}
+use Rattle.oxt_declares.specs.Dropped.{is_dropped_by, keeps_decorators}
 
 -- a diagnostic of that kind from there to there
 abbrev pub found_at : DiagnosticKind → ℕ → ℕ → OxcDiagnostic

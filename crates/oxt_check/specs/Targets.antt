@@ -12,7 +12,7 @@ use Rattle.oxt_tree.specs.Fields.{is_in}
 use Rattle.oxt_tree.specs.Inner.{inner_expression}
 use Rattle.oxt_tree.specs.Syntax.{is_definition_file}
 use Rattle.oxt_tree.specs.declared.ids.NodeId.{NodeId}
-use Rattle.oxt_unbuilt.specs.Dropped.{is_dropped_by, keeps_decorators}
+use Rattle.oxt_declares.specs.Dropped.{is_dropped_by, keeps_decorators}
 
 -- the numbers of the nodes
 abbrev pub numbers_in : List NodeId → List ℕ

@@ -15,7 +15,7 @@ ghost use Rattle.oxt_options.specs.Facts.{is_in};
 ghost use Rattle.oxt_tree.specs.View.{node_doc};
 
 use crate::survey::Survey;
-use oxt_decorator_checks::moved::first_moved_decorator;
+use oxt_class_checks::moved::first_moved_decorator;
 use oxt_enum_checks::shadowed::{ShadowedName, first_shadowed};
 use oxt_faults::captured::{CapturedName, first_captured};
 use oxt_faults::free::{FoundFree, first_free};

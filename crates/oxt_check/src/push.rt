@@ -5,10 +5,10 @@ ghost use Rattle.oxt_check.specs.Targets.{numbers_in, target_at, targets_among, 
 ghost use Rattle.oxt_tree.specs.View.{docs_in, node_doc, part_doc};
 
 use crate::wrapped::{held_by, is_wrapped_target};
+use oxt_declares::dropped::{is_dropped, keeps_decorators};
 use oxt_grammar::holds::{Holds, Row};
 use oxt_tree::ids::{NodeId, OutOfMemory};
 use oxt_tree::tree::{Node, Part};
-use oxt_unbuilt::dropped::{is_dropped, keeps_decorators};
 
 /// Appends the wrappers in the node, which stands where a field holds `holds`: itself before those in its fields.
 #[cycle(push)]

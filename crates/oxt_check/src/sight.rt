@@ -6,16 +6,16 @@ ghost use Rattle.oxt_grammar.specs.declared.kind.Kind.TheVariants as kind;
 ghost use Rattle.oxt_options.specs.Facts.{is_in};
 ghost use Rattle.oxt_options.specs.Options.{transform_view};
 ghost use Rattle.oxt_tree.specs.View.{docs_in};
-ghost use Rattle.oxt_unbuilt.specs.Dropped.{keeps_decorators};
+ghost use Rattle.oxt_declares.specs.Dropped.{keeps_decorators};
 
 use crate::seat::Seat;
+use oxt_declares::dropped::keeps_decorators;
 use oxt_grammar::field::Field;
 use oxt_grammar::kind::Kind;
 use oxt_modules::alias::is_required;
 use oxt_options::plan::Plan;
 use oxt_options::{Module, TransformOptions};
 use oxt_tree::tree::Node;
-use oxt_unbuilt::dropped::keeps_decorators;
 
 /// What decides of which nodes diagnostics tell.
 #[derive(Clone, Copy)]

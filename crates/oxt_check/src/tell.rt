@@ -13,11 +13,11 @@ use crate::named::{
 use crate::seat::Seat;
 use crate::sight::{Sight, is_changing, is_nested_module};
 use crate::wrapped::{held_by, is_wrapped_target};
+use oxt_declares::dropped::is_dropped;
 use oxt_grammar::holds::{Holds, Row};
 use oxt_tree::diagnostic::{DiagnosticKind, OxcDiagnostic};
 use oxt_tree::ids::OutOfMemory;
 use oxt_tree::tree::{Node, Part};
-use oxt_unbuilt::dropped::is_dropped;
 
 /// Appends what is told of the node, which stands in that seat and where a field holds `holds`, and then of those in it.
 #[cycle(tell)]

@@ -1,3 +1,6 @@
+pub mod Behind
+pub mod Declarations
 pub mod Elements
 pub mod Facts
 pub mod Lasts
+pub mod Owns

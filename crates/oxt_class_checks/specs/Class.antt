@@ -11,7 +11,7 @@ use Rattle.oxt_grammar.specs.declared.kind.Kind.{Kind}
 use Rattle.oxt_grammar.specs.declared.kind.Kind.TheVariants as kind
 use Rattle.oxt_tree.specs.Doc.{Doc, nil, flag, number, text, list, node, Docs}
 use Rattle.oxt_tree.specs.Fields.{docs_list, elements, is_empty_list, named}
-use Rattle.oxt_unbuilt.specs.Dropped.{is_dropped_by}
+use Rattle.oxt_declares.specs.Dropped.{is_dropped_by}
 
 abbrev pub is_any_moving : Rules → Bool → Docs → Bool
 is_any_moving r h es = list_any (moves_to_constructor r h) (docs_list es)

@@ -1,8 +1,12 @@
 pub mod Calls
 pub mod Class
+pub mod Classes
 pub mod Keys
 pub mod Misplaced
+pub mod Moved
 pub mod Nodes
+pub mod Privates
 pub mod Refused
 pub mod Rules
+pub mod Stations
 pub mod Storages

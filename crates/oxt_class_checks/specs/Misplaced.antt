@@ -18,7 +18,7 @@ use Rattle.oxt_grammar.specs.Places.{same_kind}
 use Rattle.oxt_grammar.specs.declared.kind.Kind.{Kind}
 use Rattle.oxt_grammar.specs.declared.kind.Kind.TheVariants as kind
 use Rattle.oxt_tree.specs.Doc.{Doc, Docs}
-use Rattle.oxt_unbuilt.specs.Dropped.{inside_dropped_by, is_dropped_by}
+use Rattle.oxt_declares.specs.Dropped.{inside_dropped_by, is_dropped_by}
 
 -- what is wrong, and the number of the element
 abbrev pub ElementFault : Type 0

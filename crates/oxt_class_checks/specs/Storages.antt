@@ -10,7 +10,7 @@ use Rattle.oxt_grammar.specs.declared.kind.Kind.TheVariants as kind
 use Rattle.oxt_names.specs.Made.{added}
 use Rattle.oxt_tree.specs.Doc.{Doc, node, Docs, no_docs, doc}
 use Rattle.oxt_tree.specs.Fields.{docs_list, field_of, is_kind, named, text_in}
-use Rattle.oxt_unbuilt.specs.Dropped.{is_dropped_by}
+use Rattle.oxt_declares.specs.Dropped.{is_dropped_by}
 
 -- ---- names
 

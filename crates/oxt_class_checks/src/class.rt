@@ -8,13 +8,13 @@ ghost use Rattle.oxt_tree.specs.Doc.{list};
 ghost use Rattle.oxt_tree.specs.Fields.{is_empty_list};
 ghost use Rattle.oxt_tree.specs.View.{docs_in, part_doc};
 
+use oxt_declares::dropped::is_dropped;
 use oxt_fields::class::{elements_of, is_derived};
 use oxt_fields::fate::{has_value, hoists_private, is_static, moves_to_constructor};
 use oxt_fields::rules::FieldRules;
 use oxt_grammar::field::Field;
 use oxt_grammar::kind::Kind;
 use oxt_tree::tree::{Node, Part};
-use oxt_unbuilt::dropped::is_dropped;
 
 /// What the elements of a class have to know of it.
 #[derive(Clone, Copy)]

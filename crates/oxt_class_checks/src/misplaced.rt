@@ -11,6 +11,7 @@ ghost use Rattle.oxt_tree.specs.View.{docs_in, node_doc};
 use crate::class::{ClassFacts, class_facts, is_class};
 use crate::refused::refused_accessors;
 use crate::rules::fault_at;
+use oxt_declares::dropped::{inside_dropped, is_dropped};
 use oxt_fields::rules::FieldRules;
 use oxt_grammar::field::Field;
 use oxt_grammar::holds::Row;
@@ -20,7 +21,6 @@ use oxt_search::first::first_in;
 use oxt_search::search::{Inside, Search, Visit};
 use oxt_tree::ids::{NodeId, OutOfMemory};
 use oxt_tree::tree::Node;
-use oxt_unbuilt::dropped::{inside_dropped, is_dropped};
 use std::alloc::Global;
 
 /// What is wrong with the place of an element of a class.

@@ -14,6 +14,7 @@ ghost use Rattle.oxt_tree.specs.View.{docs_in, node_doc, part_doc};
 use crate::class::is_class;
 use crate::keys::has_alias_key;
 use crate::storages::{add_privates, has_plain_storage, is_any_reserved, keeps_key};
+use oxt_declares::dropped::is_dropped;
 use oxt_decorated::storage::storage_text;
 use oxt_fields::class::elements_of;
 use oxt_fields::rules::FieldRules;
@@ -24,7 +25,6 @@ use oxt_names::uid::UidNames;
 use oxt_tree::ids::{NodeId, OutOfMemory};
 use oxt_tree::name::Name;
 use oxt_tree::tree::{Node, Part};
-use oxt_unbuilt::dropped::is_dropped;
 use std::alloc::Global;
 
 /// The accessors and setters that are refused, where accessors are lowered; none else. Those in erased code are among them.

@@ -4,6 +4,7 @@ ghost use Rattle.oxt_class_checks.specs.Storages.{has_plain_storage, has_reserve
 ghost use Rattle.oxt_fields.specs.Rules.{rules_view};
 ghost use Rattle.oxt_tree.specs.View.{doc_or_nil, docs_in, node_doc, part_doc};
 
+use oxt_declares::dropped::is_dropped;
 use oxt_decorated::storage::storage_text;
 use oxt_fields::fate::needs_temporary;
 use oxt_fields::rules::FieldRules;
@@ -12,7 +13,6 @@ use oxt_grammar::kind::Kind;
 use oxt_names::uid::UidNames;
 use oxt_tree::ids::OutOfMemory;
 use oxt_tree::tree::{Node, Part};
-use oxt_unbuilt::dropped::is_dropped;
 use std::alloc::Global;
 
 /// Whether one of the elements has a private name that is reserved, or a storage with such a name.

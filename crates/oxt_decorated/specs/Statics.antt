@@ -4,7 +4,7 @@ use Rattle.std.specs.List.{list_any}
 use Rattle.oxt_grammar.specs.declared.kind.Kind.TheVariants as kind
 use Rattle.oxt_tree.specs.Doc.{Doc, Docs}
 use Rattle.oxt_tree.specs.Fields.{docs_list, field_of, is_kind, is_set}
-use Rattle.oxt_unbuilt.specs.Dropped.{is_dropped}
+use Rattle.oxt_declares.specs.Dropped.{is_dropped}
 
 -- an accessor that is static
 abbrev pub is_static_accessor : Doc → Bool

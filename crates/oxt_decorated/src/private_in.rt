@@ -5,6 +5,7 @@ ghost use Rattle.oxt_decorated.specs.PrivateIn.{asks, asks_inside, hold_private_
 ghost use Rattle.oxt_tree.specs.View.{docs_in, node_doc, part_doc};
 
 use crate::class::{elements_of, parameters_of};
+use oxt_declares::dropped::{inside_dropped, is_dropped};
 use oxt_grammar::field::Field;
 use oxt_grammar::holds::Row;
 use oxt_grammar::kind::Kind;
@@ -12,7 +13,6 @@ use oxt_search::first::first_among;
 use oxt_search::search::{Inside, Search, Visit};
 use oxt_tree::ids::NodeId;
 use oxt_tree::tree::{Node, Part};
-use oxt_unbuilt::dropped::{inside_dropped, is_dropped};
 
 /// Whether a decorator of the class, of one of its elements outside erased code, or of a parameter of such an element holds
 /// `#x in o` outside erased code.

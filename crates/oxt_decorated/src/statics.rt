@@ -4,10 +4,10 @@ ghost use Rattle.std.specs.List.{list_any};
 ghost use Rattle.oxt_decorated.specs.Statics.{has_static_accessor, has_static_part, is_static_accessor, is_static_kind, is_static_part};
 ghost use Rattle.oxt_tree.specs.View.{docs_in, node_doc, part_doc};
 
+use oxt_declares::dropped::is_dropped;
 use oxt_grammar::field::Field;
 use oxt_grammar::kind::Kind;
 use oxt_tree::tree::{Node, Part};
-use oxt_unbuilt::dropped::is_dropped;
 
 /// Whether one of the elements is a static accessor.
 #[tactic(auto, using(oxt_tree::proofs::Lists::list_any_docs_in))]

@@ -45,7 +45,7 @@ use Rattle.oxt_grammar.specs.declared.kind.Kind.{Kind}
 use Rattle.oxt_grammar.specs.declared.kind.Kind.TheVariants as kind
 use Rattle.oxt_tree.specs.Doc.{Doc, nil, flag, number, text, list, node, Docs, no_docs, doc}
 use Rattle.oxt_tree.specs.Fields.{elements, named}
-use Rattle.oxt_unbuilt.specs.Dropped.{is_declared_field, is_dropped_by}
+use Rattle.oxt_declares.specs.Dropped.{is_declared_field, is_dropped_by}
 
 and_false : (b : Bool) → (b && false) ≡ false
 and_false true = refl

@@ -14,7 +14,7 @@ use Rattle.oxt_grammar.specs.declared.kind.Kind.{Kind}
 use Rattle.oxt_grammar.specs.declared.kind.Kind.TheVariants as kind
 use Rattle.oxt_tree.specs.Doc.{Doc}
 use Rattle.oxt_tree.specs.Names.{name_bytes}
-use Rattle.oxt_unbuilt.specs.Dropped.{inside_dropped_by, is_dropped_by}
+use Rattle.oxt_declares.specs.Dropped.{inside_dropped_by, is_dropped_by}
 
 -- a member: its enum, its number and its name
 pub record Member : Type 0 where

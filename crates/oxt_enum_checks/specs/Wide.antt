@@ -14,7 +14,7 @@ use Rattle.oxt_grammar.specs.declared.kind.Kind.{Kind}
 use Rattle.oxt_grammar.specs.declared.kind.Kind.TheVariants as kind
 use Rattle.oxt_tree.specs.Doc.{Doc, node, Docs, no_docs, doc}
 use Rattle.oxt_tree.specs.Fields.{elements, is_nil, named}
-use Rattle.oxt_unbuilt.specs.Dropped.{inside_dropped_by, is_dropped_by}
+use Rattle.oxt_declares.specs.Dropped.{inside_dropped_by, is_dropped_by}
 
 -- ---- constants
 

@@ -6,6 +6,7 @@ ghost use Rattle.oxt_tree.specs.View.{node_doc};
 
 use crate::around::{EnumAround, enum_of, within};
 use crate::misused::{has_members, is_member};
+use oxt_declares::dropped::{inside_dropped, is_dropped};
 use oxt_grammar::holds::Row;
 use oxt_grammar::kind::Kind;
 use oxt_names::ids::SymbolId;
@@ -15,7 +16,6 @@ use oxt_search::search::{Inside, Search, Visit};
 use oxt_tree::ids::{NodeId, OutOfMemory};
 use oxt_tree::name::Name;
 use oxt_tree::tree::Node;
-use oxt_unbuilt::dropped::{inside_dropped, is_dropped};
 use std::alloc::Global;
 
 /// A member of an enum.

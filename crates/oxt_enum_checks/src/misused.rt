@@ -5,6 +5,7 @@ ghost use Rattle.oxt_scopes.specs.Stack.{number_at};
 ghost use Rattle.oxt_tree.specs.View.{node_doc};
 
 use bitflags::Flags;
+use oxt_declares::dropped::{inside_dropped, is_dropped};
 use oxt_grammar::holds::Row;
 use oxt_grammar::kind::Kind;
 use oxt_names::flags::{ReferenceFlags, SymbolFlags};
@@ -15,7 +16,6 @@ use oxt_search::first::first_in;
 use oxt_search::search::{Inside, Search, Visit};
 use oxt_tree::ids::NodeId;
 use oxt_tree::tree::Node;
-use oxt_unbuilt::dropped::{inside_dropped, is_dropped};
 
 /// The first bare name in the program, outside what is erased and outside types, that means a member of an enum
 /// and is written, or names an element of JSX. Under `legacy` the decorators of a field with `declare` are not erased.

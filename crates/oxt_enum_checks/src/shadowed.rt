@@ -9,6 +9,7 @@ ghost use Rattle.oxt_tree.specs.View.{doc_of_part, doc_or_nil, docs_in, node_doc
 use crate::around::{EnumAround, enum_of, within};
 use crate::misused::has_members;
 use crate::shadows::{Search, push_initializer};
+use oxt_declares::dropped::{is_declared_field, is_dropped};
 use oxt_grammar::field::Field;
 use oxt_grammar::holds::Row;
 use oxt_grammar::kind::Kind;
@@ -18,7 +19,6 @@ use oxt_tree::fields::place_of;
 use oxt_tree::ids::{NodeId, OutOfMemory};
 use oxt_tree::name::Name;
 use oxt_tree::tree::{Node, Part};
-use oxt_unbuilt::dropped::{is_declared_field, is_dropped};
 use std::alloc::Global;
 
 /// A bare name of a member at which the name of its enum means something else.

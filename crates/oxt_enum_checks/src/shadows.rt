@@ -8,11 +8,12 @@ ghost use Rattle.oxt_scopes.specs.Stack.{levels};
 ghost use Rattle.oxt_grammar.specs.Field.{row_view};
 ghost use Rattle.oxt_grammar.specs.Rows.{row_of};
 ghost use Rattle.oxt_tree.specs.View.{doc_or_nil, docs_in, node_doc, part_doc};
-ghost use Rattle.oxt_unbuilt.specs.Dropped.{is_declared_field};
+ghost use Rattle.oxt_declares.specs.Dropped.{is_declared_field};
 
 use crate::around::EnumAround;
 use crate::shadowed::ShadowedName;
 use crate::uses::is_member_use;
+use oxt_declares::dropped::{is_declared_field, is_dropped};
 use oxt_grammar::holds::Row;
 use oxt_scopes::look::meaning;
 use oxt_scopes::owners::reading_of;
@@ -21,7 +22,6 @@ use oxt_scopes::way::{Pass, Reading, Step, Way, step_of};
 use oxt_scoping::scoping::Scoping;
 use oxt_tree::ids::{NodeId, OutOfMemory};
 use oxt_tree::tree::{Node, Part};
-use oxt_unbuilt::dropped::{is_declared_field, is_dropped};
 use std::alloc::Global;
 
 /// What is looked for: bare names of the members of an enum, in an initializer of it.

@@ -5,6 +5,7 @@ ghost use Rattle.oxt_enum_checks.specs.declared.wide.WideMember.{WideMember};
 ghost use Rattle.oxt_tree.specs.View.{docs_in, node_doc, part_doc};
 
 use crate::misused::{has_members, is_member};
+use oxt_declares::dropped::{inside_dropped, is_dropped};
 use oxt_grammar::field::Field;
 use oxt_grammar::holds::Row;
 use oxt_grammar::kind::Kind;
@@ -16,7 +17,6 @@ use oxt_search::first::first_in;
 use oxt_search::search::{Inside, Search, Visit};
 use oxt_tree::ids::{NodeId, Span};
 use oxt_tree::tree::{Node, Part};
-use oxt_unbuilt::dropped::{inside_dropped, is_dropped};
 
 /// A member whose constant would be larger than the largest.
 #[derive(Clone, Copy, PartialEq, Eq)]

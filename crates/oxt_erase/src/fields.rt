@@ -1,5 +1,7 @@
 //! Fields that only TypeScript has.
 
+use oxt_declares::dropped::{is_droppable, part_is_dropped};
+use oxt_declares::languages::is_language;
 use oxt_grammar::category::Category;
 use oxt_grammar::field::Field;
 use oxt_grammar::holds::{Holds, Row};
@@ -8,8 +10,6 @@ use oxt_grammar::word::Word;
 use oxt_tree::fields::default_part;
 use oxt_tree::ids::{NodeId, OutOfMemory, Span};
 use oxt_tree::tree::{Node, Part};
-use oxt_unbuilt::dropped::{is_droppable, part_is_dropped};
-use oxt_unbuilt::rows::is_language;
 use std::alloc::Global;
 use std::vec;
 

@@ -1,11 +1,11 @@
 //! Declarations and class elements that stand for nothing at run time.
 ghost use Rattle.std.specs.Prelude.{◌≡◌, filter, not};
 ghost use Rattle.oxt_tree.specs.View.{part_doc};
-ghost use Rattle.oxt_unbuilt.specs.Dropped.{is_dropped};
+ghost use Rattle.oxt_declares.specs.Dropped.{is_dropped};
 
+use oxt_declares::dropped::part_is_dropped;
 use oxt_grammar::kind::Kind;
 use oxt_tree::tree::{Node, Part};
-use oxt_unbuilt::dropped::part_is_dropped;
 
 /// Drops the elements of a list that stand for nothing at run time.
 pub fn drop_erased(parts: &mut Vec<Part>)

@@ -17,7 +17,7 @@ use Rattle.oxt_search.specs.First.{first_in}
 use Rattle.oxt_names.specs.declared.ids.SymbolId.{SymbolId}
 use Rattle.oxt_tree.proofs.Lists.{drop_end}
 use Rattle.oxt_tree.specs.Doc.{Doc}
-use Rattle.oxt_unbuilt.specs.Dropped.{is_dropped_by}
+use Rattle.oxt_declares.specs.Dropped.{is_dropped_by}
 
 -- ---- one symbol after another
 

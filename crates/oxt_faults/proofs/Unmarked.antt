@@ -13,7 +13,7 @@ use Rattle.oxt_scoping.specs.Scoped.{Scoped}
 use Rattle.oxt_search.proofs.Nothing.{either_none, none_in}
 use Rattle.oxt_search.specs.First.{first, first_in}
 use Rattle.oxt_tree.specs.Doc.{Doc}
-use Rattle.oxt_unbuilt.specs.Dropped.{is_dropped_by}
+use Rattle.oxt_declares.specs.Dropped.{is_dropped_by}
 
 not_marked : (bs : List Bool) (n : ℕ) → has_mark bs ≡ false → slice_index_or bs n false ≡ false
 not_marked [] n h = refl

@@ -22,7 +22,7 @@ use Rattle.oxt_grammar.specs.declared.kind.Kind.TheVariants as kind
 use Rattle.oxt_tree.specs.Doc.{Doc, nil, flag, number, text, list, node, Docs}
 use Rattle.oxt_tree.specs.Fields.{is_set, named}
 use Rattle.oxt_tree.specs.Syntax.{is_type_only}
-use Rattle.oxt_unbuilt.specs.Dropped.{inside_dropped_by, is_dropped_by}
+use Rattle.oxt_declares.specs.Dropped.{inside_dropped_by, is_dropped_by}
 
 -- a declaration of a kind that only TypeScript has, or one with `declare`
 abbrev pub is_typescript_declaration : Kind → Docs → Bool

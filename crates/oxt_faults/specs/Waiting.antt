@@ -11,7 +11,7 @@ use Rattle.oxt_grammar.specs.declared.kind.Kind.{Kind}
 use Rattle.oxt_grammar.specs.declared.kind.Kind.TheVariants as kind
 use Rattle.oxt_tree.specs.Doc.{Doc, nil, flag, number, text, list, node, Docs}
 use Rattle.oxt_tree.specs.Fields.{docs_list, is_kind, is_text, named}
-use Rattle.oxt_unbuilt.specs.Dropped.{is_dropped_by}
+use Rattle.oxt_declares.specs.Dropped.{is_dropped_by}
 
 -- the key of an element is an expression
 abbrev pub has_expression : Kind → Docs → Bool

@@ -12,6 +12,7 @@ ghost use Rattle.oxt_tree.specs.View.{node_doc};
 use crate::outside::{captured_symbols, mark_at};
 use crate::written::first_written;
 use bitflags::Flags;
+use oxt_declares::dropped::{inside_dropped, is_dropped};
 use oxt_fields::rules::FieldRules;
 use oxt_grammar::holds::Row;
 use oxt_grammar::kind::Kind;
@@ -24,7 +25,6 @@ use oxt_search::search::{Inside, Search, Visit};
 use oxt_tree::ids::{NodeId, OutOfMemory};
 use oxt_tree::name::Name;
 use oxt_tree::tree::Node;
-use oxt_unbuilt::dropped::{inside_dropped, is_dropped};
 use std::alloc::Global;
 
 /// A name that would change its owner.

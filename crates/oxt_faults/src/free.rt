@@ -11,6 +11,7 @@ ghost use Rattle.oxt_tree.specs.View.{docs_in, node_doc};
 use crate::around::is_class;
 use crate::globals::{Globals, global_taken, no_globals, with_globals};
 use crate::outside::emits;
+use oxt_declares::dropped::{inside_dropped, is_dropped};
 use oxt_decorated::calls::{is_called, is_decorated};
 use oxt_fields::rules::FieldRules;
 use oxt_grammar::field::Field;
@@ -25,7 +26,6 @@ use oxt_search::first::first_in;
 use oxt_search::search::{Inside, Search, Visit};
 use oxt_tree::ids::NodeId;
 use oxt_tree::tree::{Node, Part};
-use oxt_unbuilt::dropped::{inside_dropped, is_dropped};
 
 /// A name that lowered code has of its own.
 #[derive(Clone, Copy, PartialEq, Eq)]

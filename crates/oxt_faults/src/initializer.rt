@@ -5,6 +5,7 @@ ghost use Rattle.oxt_faults.specs.Level.{LevelWordAt, found_view};
 ghost use Rattle.oxt_tree.specs.View.{docs_in, node_doc};
 
 use crate::level::{FoundWord, first_level_word_at};
+use oxt_declares::dropped::{inside_dropped, is_dropped};
 use oxt_grammar::field::Field;
 use oxt_grammar::holds::Row;
 use oxt_grammar::kind::Kind;
@@ -13,7 +14,6 @@ use oxt_search::all::all_in;
 use oxt_search::search::{Inside, Search, Visit};
 use oxt_tree::ids::{NodeId, OutOfMemory};
 use oxt_tree::tree::Node;
-use oxt_unbuilt::dropped::{inside_dropped, is_dropped};
 use std::alloc::Global;
 
 /// The word of the least number, outside what is erased, that stands at the level of the initializer of a member of an

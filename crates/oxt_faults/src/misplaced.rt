@@ -14,6 +14,7 @@ ghost use Rattle.oxt_tree.specs.View.{docs_in, node_doc};
 
 use crate::rules::{is_misplaced, misplaced_kinds};
 use crate::seat::{Seat, dropped_seat, seat_in, seat_inside};
+use oxt_declares::dropped::{inside_dropped, is_dropped};
 use oxt_fields::rules::FieldRules;
 use oxt_grammar::holds::Row;
 use oxt_grammar::kind::Kind;
@@ -21,7 +22,6 @@ use oxt_search::first::first_in;
 use oxt_search::search::{Inside, Search, Visit};
 use oxt_tree::ids::NodeId;
 use oxt_tree::tree::Node;
-use oxt_unbuilt::dropped::{inside_dropped, is_dropped};
 
 /// What is wrong with the place of a node.
 #[derive(Clone, Copy, Debug, PartialEq, Eq)]

@@ -16,6 +16,7 @@ use crate::redeclared::{first_redeclared, own_names, redeclared_symbols};
 use crate::waiting::{first_word_left, has_expression};
 use crate::word::Destination;
 use crate::written::first_hidden_written;
+use oxt_declares::dropped::{inside_dropped, is_dropped};
 use oxt_fields::class::{constructor_of, elements_of};
 use oxt_fields::fate::{Fate, fate_of, hoists_private, is_static};
 use oxt_fields::rules::FieldRules;
@@ -27,7 +28,6 @@ use oxt_search::all::all_in;
 use oxt_search::search::{Inside, Search, Visit};
 use oxt_tree::ids::OutOfMemory;
 use oxt_tree::tree::{Node, Part};
-use oxt_unbuilt::dropped::{inside_dropped, is_dropped};
 use std::alloc::Global;
 
 /// Of the names in the program that would mean something else once the fields of classes move, outside what is erased, the

@@ -5,13 +5,13 @@ ghost use Rattle.oxt_faults.specs.Namespaces.{namespace_word, sought};
 ghost use Rattle.oxt_tree.specs.View.{node_doc};
 
 use crate::level::{FoundWord, first_level_word_at};
+use oxt_declares::dropped::{inside_dropped, is_dropped};
 use oxt_grammar::field::Field;
 use oxt_grammar::holds::Row;
 use oxt_grammar::kind::Kind;
 use oxt_search::first::first_in;
 use oxt_search::search::{Inside, Search, Visit};
 use oxt_tree::tree::Node;
-use oxt_unbuilt::dropped::{inside_dropped, is_dropped};
 
 /// The first word in the program, outside what is erased, that stands at the level of the statements of a namespace: they
 /// go into a function, where the word would mean something else. What stands at the level of a namespace inside another

@@ -4,13 +4,13 @@ ghost use Rattle.oxt_faults.specs.PrivateIns.{holds_private_in, private_in, soug
 ghost use Rattle.oxt_faults.specs.Redeclared.{number_of};
 ghost use Rattle.oxt_tree.specs.View.{docs_in};
 
+use oxt_declares::dropped::{inside_dropped, is_dropped};
 use oxt_grammar::holds::Row;
 use oxt_grammar::kind::Kind;
 use oxt_search::first::first_among;
 use oxt_search::search::{Inside, Search, Visit};
 use oxt_tree::ids::NodeId;
 use oxt_tree::tree::Node;
-use oxt_unbuilt::dropped::{inside_dropped, is_dropped};
 
 /// Whether a private `in` stands in the decorator at any depth, outside what is erased where decorators have their older
 /// meaning.

@@ -10,6 +10,7 @@ ghost use Rattle.oxt_tree.specs.View.{doc_or_nil, docs_in};
 use crate::misplaced::MisplacedKind;
 use crate::private_in::holds_private_in;
 use crate::seat::Seat;
+use oxt_declares::dropped::is_dropped;
 use oxt_fields::rules::FieldRules;
 use oxt_grammar::category::Category;
 use oxt_grammar::field::Field;
@@ -17,7 +18,6 @@ use oxt_grammar::kind::Kind;
 use oxt_modules::alias::is_alias;
 use oxt_tree::ids::NodeId;
 use oxt_tree::tree::{Node, Part};
-use oxt_unbuilt::dropped::is_dropped;
 
 /// The kinds in which a node may be misplaced by what stands around it, in the order in which they are answered.
 pub fn misplaced_kinds() -> &'static [MisplacedKind]

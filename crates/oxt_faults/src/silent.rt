@@ -6,11 +6,11 @@ ghost use Rattle.oxt_grammar.specs.Places.{same_kind};
 ghost use Rattle.oxt_tree.specs.View.{docs_in};
 
 use crate::reach::Reach;
+use oxt_declares::dropped::{inside_dropped, is_dropped};
 use oxt_grammar::category::Category;
 use oxt_grammar::kind::Kind;
 use oxt_search::search::Inside;
 use oxt_tree::tree::Node;
-use oxt_unbuilt::dropped::{inside_dropped, is_dropped};
 
 /// Whether neither the node nor anything in it stands at the level: it is out of reach, erased, or a type.
 pub fn is_silent(reach: Reach, node: &Node) -> bool

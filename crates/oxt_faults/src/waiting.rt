@@ -7,12 +7,12 @@ ghost use Rattle.oxt_tree.specs.View.{docs_in, part_doc};
 
 use crate::earliest::{MovedName, earlier, of_word};
 use crate::level::first_level_word_at;
+use oxt_declares::dropped::is_dropped;
 use oxt_fields::fate::{Fate, fate_of};
 use oxt_fields::rules::FieldRules;
 use oxt_grammar::field::Field;
 use oxt_grammar::kind::Kind;
 use oxt_tree::tree::{Node, Part};
-use oxt_unbuilt::dropped::is_dropped;
 
 /// The earliest word at the level of a key that waits behind all elements of a class: no element takes it, and it goes into
 /// a static block.

@@ -23,7 +23,7 @@ use Rattle.oxt_search.specs.declared.search.Inside.{Inside}
 use Rattle.oxt_search.specs.declared.search.Inside.TheVariants as inside
 use Rattle.oxt_tree.specs.Doc.{Doc, nil, flag, number, text, list, node, Docs}
 use Rattle.oxt_tree.specs.Fields.{field_of}
-use Rattle.oxt_unbuilt.specs.Dropped.{inside_dropped_by, is_declared_field, is_dropped_by}
+use Rattle.oxt_declares.specs.Dropped.{inside_dropped_by, is_declared_field, is_dropped_by}
 
 -- ---- how the body of a class is searched
 

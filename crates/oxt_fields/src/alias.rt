@@ -12,6 +12,7 @@ ghost use Rattle.oxt_tree.specs.View.{doc_or_nil, docs_in, node_doc};
 use crate::fate::{Fate, fate_of};
 use crate::rules::FieldRules;
 use crate::steady::meant;
+use oxt_declares::dropped::{is_declared_field, is_dropped};
 use oxt_decorated::class::{elements_of, is_constructor};
 use oxt_grammar::category::Category;
 use oxt_grammar::field::Field;
@@ -23,7 +24,6 @@ use oxt_search::all::push_among;
 use oxt_search::search::{Inside, Search, Visit};
 use oxt_tree::ids::{NodeId, OutOfMemory};
 use oxt_tree::tree::{Node, Part};
-use oxt_unbuilt::dropped::{is_declared_field, is_dropped};
 
 /// Where the search for the uses of a decorated class stands.
 #[derive(Clone, Copy, PartialEq, Eq)]

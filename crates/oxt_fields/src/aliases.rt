@@ -11,6 +11,7 @@ ghost use Rattle.oxt_tree.specs.View.{doc_of_part, docs_in, node_doc, part_doc};
 
 use crate::alias::push_class_uses;
 use crate::rules::FieldRules;
+use oxt_declares::dropped::{is_declared_field, is_dropped};
 use oxt_decorated::calls::is_decorated;
 use oxt_grammar::field::Field;
 use oxt_grammar::holds::Row;
@@ -18,7 +19,6 @@ use oxt_scoping::scoping::Scoping;
 use oxt_tree::fields::place_of;
 use oxt_tree::ids::{NodeId, OutOfMemory};
 use oxt_tree::tree::{Node, Part};
-use oxt_unbuilt::dropped::{is_declared_field, is_dropped};
 use std::alloc::Global;
 
 /// The names that are read as the alias of a decorated class, each with the number of the class, where decorators are lowered:

@@ -17,7 +17,7 @@ use Rattle.oxt_search.specs.declared.search.Inside.TheVariants as inside
 use Rattle.oxt_tree.specs.Doc.{Doc, Docs}
 use Rattle.oxt_tree.specs.Fields.{named}
 use Rattle.oxt_tree.specs.Syntax.{is_definition_file}
-use Rattle.oxt_unbuilt.specs.Dropped.{inside_dropped_by, is_dropped_by}
+use Rattle.oxt_declares.specs.Dropped.{inside_dropped_by, is_dropped_by}
 
 -- the enum of that symbol is dropped: its members are inlined, and it is not needed
 abbrev pub goes : Scoped → TypeScriptData → (ℕ → Bool) → Option SymbolId → Bool

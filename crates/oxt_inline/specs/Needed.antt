@@ -28,7 +28,7 @@ use Rattle.oxt_search.specs.declared.search.Inside.{Inside}
 use Rattle.oxt_search.specs.declared.search.Inside.TheVariants as inside
 use Rattle.oxt_tree.specs.Doc.{Doc, node, Docs}
 use Rattle.oxt_tree.specs.Fields.{docs_list, elements, field_of, is_kind, named}
-use Rattle.oxt_unbuilt.specs.Dropped.{inside_dropped_by, is_dropped_by}
+use Rattle.oxt_declares.specs.Dropped.{inside_dropped_by, is_dropped_by}
 
 abbrev pub number_of : SymbolId → ℕ
 number_of i = i.0

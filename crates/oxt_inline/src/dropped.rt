@@ -12,6 +12,7 @@ use crate::names::named_symbol;
 use crate::needed::needed_symbols;
 use crate::values::{is_optimized, optimizes};
 use indexmap::IndexSet;
+use oxt_declares::dropped::{inside_dropped, is_dropped};
 use oxt_grammar::field::Field;
 use oxt_grammar::holds::Row;
 use oxt_grammar::kind::Kind;
@@ -24,7 +25,6 @@ use oxt_search::all::all_in;
 use oxt_search::search::{Inside, Search, Visit};
 use oxt_tree::ids::{NodeId, OutOfMemory};
 use oxt_tree::tree::Node;
-use oxt_unbuilt::dropped::{inside_dropped, is_dropped};
 use std::alloc::Global;
 
 /// The blocks, in the order of the text, of the enums that are dropped: members of the enum are inlined, no block of it is

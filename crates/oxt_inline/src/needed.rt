@@ -14,6 +14,7 @@ use crate::inlined::constant_at;
 use crate::names::named_symbol;
 use crate::seat::{Seat, is_constant, is_exported, is_left_out, is_name, seat_by, seat_in};
 use bitflags::Flags;
+use oxt_declares::dropped::{inside_dropped, is_dropped};
 use oxt_grammar::field::Field;
 use oxt_grammar::holds::Row;
 use oxt_grammar::kind::Kind;
@@ -27,7 +28,6 @@ use oxt_search::all::all_in;
 use oxt_search::search::{Inside, Search, Visit};
 use oxt_tree::ids::{NodeId, OutOfMemory};
 use oxt_tree::tree::{Node, Part};
-use oxt_unbuilt::dropped::{inside_dropped, is_dropped};
 use std::alloc::Global;
 
 /// The symbols, in the order of the text, that are used as values in what is left of the program once members are

@@ -2,7 +2,14 @@ pub mod Answer
 pub mod Data
 pub mod Faults
 pub mod Heads
+pub mod Laws
 pub mod Leaves
 pub mod Misreads
+pub mod Numbered
+pub mod Numbers
+pub mod Order
 pub mod Reading
+pub mod Slots
+pub mod Spelled
 pub mod Spelling
+pub mod Tokens

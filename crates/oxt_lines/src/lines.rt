@@ -22,6 +22,11 @@ impl Lines {
         self.text.as_str()
     }
 
+    /// Adds whole lines.
+    pub fn add(&mut self, lines: &str) -> Result<(), AllocError> {
+        self.text.push_str(lines)
+    }
+
     /// Begins a line.
     pub fn begin(&mut self, label: &str) -> Result<(), AllocError> {
         self.text.push_str(label)?;

@@ -5,7 +5,7 @@ use Rattle.oxt_grammar.specs.declared.kind.Kind.TheVariants as kind
 use Rattle.oxt_options.specs.Facts.{Facts, is_in}
 use Rattle.oxt_tree.specs.Doc.{Doc, node}
 use Rattle.oxt_tree.specs.Fields.{is_kind}
-use Rattle.oxt_unbuilt.specs.Dropped.{is_dropped}
+use Rattle.oxt_declares.specs.Dropped.{is_dropped}
 
 -- a block of an enum that is not erased
 abbrev pub is_block : Doc → Bool

@@ -8,13 +8,13 @@ use crate::namespace_call::{alone_statements, member_statements, open_namespace}
 use crate::namespace_export::{export_statements, vanishes};
 use crate::namespace_list::{flatten, replace_by};
 use oxt_ctx::context::TraverseCtx;
+use oxt_declares::dropped::is_dropped;
 use oxt_grammar::field::Field;
 use oxt_grammar::kind::Kind;
 use oxt_stores::bound::BoundIdentifier;
 use oxt_tree::fields::place_of;
 use oxt_tree::ids::{NodeIds, OutOfMemory};
 use oxt_tree::tree::{Node, Part};
-use oxt_unbuilt::dropped::is_dropped;
 use std::alloc::Global;
 
 /// Whether the node is a block of a namespace that is lowered.

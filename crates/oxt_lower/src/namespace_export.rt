@@ -7,6 +7,7 @@ use crate::members::take_field;
 use crate::namespace_call::member_on;
 use oxt_ctx::context::TraverseCtx;
 use oxt_ctx::nodes::{assignment, make, statement};
+use oxt_declares::dropped::{is_dropped, part_is_dropped};
 use oxt_grammar::field::Field;
 use oxt_grammar::kind::Kind;
 use oxt_names::flags::ReferenceFlags;
@@ -16,7 +17,6 @@ use oxt_tree::bound::BoundName;
 use oxt_tree::fields::place_of;
 use oxt_tree::ids::{NodeIds, OutOfMemory};
 use oxt_tree::tree::{Node, Part};
-use oxt_unbuilt::dropped::{is_dropped, part_is_dropped};
 use std::alloc::Global;
 use std::vec;
 

@@ -6,11 +6,11 @@ ghost use Rattle.oxt_tree.specs.View.{node_doc, part_doc};
 
 use crate::block::lower_block;
 use oxt_ctx::context::TraverseCtx;
+use oxt_declares::dropped::is_dropped;
 use oxt_grammar::kind::Kind;
 use oxt_options::plan::Plan;
 use oxt_tree::ids::OutOfMemory;
 use oxt_tree::tree::{Node, Part};
-use oxt_unbuilt::dropped::is_dropped;
 use std::vec;
 
 /// Lowers the statement, if it is a block of an enum or exports one. What is erased stays, and so does

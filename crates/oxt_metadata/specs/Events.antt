@@ -19,7 +19,7 @@ use Rattle.oxt_search.specs.declared.search.Inside.{Inside}
 use Rattle.oxt_search.specs.declared.search.Inside.TheVariants as inside
 use Rattle.oxt_tree.specs.Doc.{Doc, nil, flag, number, text, list, node, Docs}
 use Rattle.oxt_tree.specs.Fields.{named}
-use Rattle.oxt_unbuilt.specs.Dropped.{is_declared_field, is_dropped_by}
+use Rattle.oxt_declares.specs.Dropped.{is_declared_field, is_dropped_by}
 
 -- ---- nodes
 

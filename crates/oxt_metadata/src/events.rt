@@ -7,6 +7,7 @@ ghost use Rattle.oxt_tree.specs.View.{doc_or_nil, docs_in, node_doc};
 
 use crate::shape::{Shape, shape_of};
 use crate::symbols::{declared_by, meant};
+use oxt_declares::dropped::{is_declared_field, is_dropped};
 use oxt_grammar::field::Field;
 use oxt_grammar::holds::Row;
 use oxt_grammar::kind::Kind;
@@ -16,7 +17,6 @@ use oxt_search::all::all_in;
 use oxt_search::search::{Inside, Search, Visit};
 use oxt_tree::ids::{NodeId, OutOfMemory};
 use oxt_tree::tree::{Node, Part};
-use oxt_unbuilt::dropped::{is_declared_field, is_dropped};
 use std::alloc::Global;
 
 /// What stands in the text.

@@ -5,6 +5,7 @@ ghost use Rattle.oxt_metadata.specs.Sites.{called_inside, code_inside, declared_
 ghost use Rattle.oxt_tree.specs.View.{docs_in, node_doc};
 
 use crate::typing::is_awaited;
+use oxt_declares::dropped::{inside_dropped, is_declared_field, is_dropped};
 use oxt_decorated::calls::{is_called, is_decorated};
 use oxt_decorated::class::is_constructor;
 use oxt_grammar::field::Field;
@@ -13,7 +14,6 @@ use oxt_grammar::kind::Kind;
 use oxt_search::search::Inside;
 use oxt_tree::ids::NodeId;
 use oxt_tree::tree::Node;
-use oxt_unbuilt::dropped::{inside_dropped, is_declared_field, is_dropped};
 
 /// Where a node stands. The number is that of the class whose metadata is looked at.
 #[derive(Clone, Copy, PartialEq, Eq)]

@@ -13,7 +13,7 @@ use Rattle.oxt_search.specs.declared.search.Inside.TheVariants as inside
 use Rattle.oxt_grammar.specs.declared.kind.Kind.{Kind}
 use Rattle.oxt_grammar.specs.declared.kind.Kind.TheVariants as kind
 use Rattle.oxt_tree.specs.Doc.{Doc, Docs, text}
-use Rattle.oxt_unbuilt.specs.Dropped.{inside_dropped_by, is_dropped_by}
+use Rattle.oxt_declares.specs.Dropped.{inside_dropped_by, is_dropped_by}
 
 -- what a node of that kind is of JSX
 abbrev pub own_node : Kind → Option JsxNode

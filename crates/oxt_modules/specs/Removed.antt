@@ -7,7 +7,7 @@ use Rattle.oxt_grammar.specs.declared.kind.Kind.TheVariants as kind
 use Rattle.oxt_tree.specs.Doc.{Doc, nil, flag, number, text, list, node, Docs}
 use Rattle.oxt_tree.specs.Fields.{docs_list, elements, is_empty_list, is_kind, is_set, named}
 use Rattle.oxt_tree.specs.Syntax.{is_type_only}
-use Rattle.oxt_unbuilt.specs.Dropped.{is_dropped}
+use Rattle.oxt_declares.specs.Dropped.{is_dropped}
 
 -- a node that is kept by its number
 abbrev pub is_kept : (ℕ → Bool) → Doc → Bool

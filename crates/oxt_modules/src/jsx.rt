@@ -6,6 +6,7 @@ ghost use Rattle.oxt_modules.specs.Jsx.{before_dot, is_element, is_fragment, is_
 ghost use Rattle.oxt_modules.specs.declared.jsx.JsxNode.{JsxNode};
 ghost use Rattle.oxt_tree.specs.View.{docs_in, node_doc};
 
+use oxt_declares::dropped::{inside_dropped, is_dropped};
 use oxt_grammar::holds::Row;
 use oxt_grammar::kind::Kind;
 use oxt_options::TypeScriptOptions;
@@ -13,7 +14,6 @@ use oxt_search::all::all_in;
 use oxt_search::search::{Inside, Search, Visit};
 use oxt_tree::ids::OutOfMemory;
 use oxt_tree::tree::Node;
-use oxt_unbuilt::dropped::{inside_dropped, is_dropped};
 use std::alloc::Global;
 
 /// What a program has of JSX outside erased code.

@@ -6,13 +6,13 @@ ghost use Rattle.oxt_options.specs.Facts.{is_in};
 ghost use Rattle.oxt_tree.specs.Doc.{list};
 ghost use Rattle.oxt_tree.specs.Fields.{is_empty_list, named};
 ghost use Rattle.oxt_tree.specs.View.{docs_in, node_doc, part_doc};
-ghost use Rattle.oxt_unbuilt.specs.Dropped.{is_dropped};
+ghost use Rattle.oxt_declares.specs.Dropped.{is_dropped};
 
+use oxt_declares::dropped::part_is_dropped;
 use oxt_grammar::field::Field;
 use oxt_grammar::kind::Kind;
 use oxt_options::plan::Plan;
 use oxt_tree::tree::{Node, Part};
-use oxt_unbuilt::dropped::part_is_dropped;
 
 /// Whether the part is a node that the plan keeps.
 pub fn is_kept(plan: &Plan, part: &Part) -> bool

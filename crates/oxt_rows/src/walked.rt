@@ -3,7 +3,7 @@
 use oxt_check::check;
 use oxt_ctx::context::TraverseCtx;
 use oxt_decor::pass::Decorator;
-use oxt_json_write::write_tree;
+use oxt_json::write_tree;
 use oxt_lines::lines::Lines;
 use oxt_lines::nodes::tree_of;
 use oxt_lines::stopped::Stopped;

@@ -17,7 +17,7 @@ use Rattle.oxt_told.specs.Tags.{alias_part, class_use, inner_part, is_nameless, 
 use Rattle.oxt_told.specs.declared.lowering.Lowering.{Lowering}
 use Rattle.oxt_tree.specs.Doc.{Doc, nil, flag, number, text, list, node, Docs}
 use Rattle.oxt_tree.specs.Fields.{field_of, is_kind}
-use Rattle.oxt_unbuilt.specs.Dropped.{is_dropped}
+use Rattle.oxt_declares.specs.Dropped.{is_dropped}
 
 -- ---- what decorators make of a class
 

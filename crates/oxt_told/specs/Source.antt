@@ -31,7 +31,7 @@ use Rattle.oxt_tree.specs.Doc.{Doc, nil, flag, number, text, list, node, Docs, n
 use Rattle.oxt_told.specs.declared.members.EnumAround.{EnumAround}
 use Rattle.oxt_tree.specs.Fields.{elements, field_of, is_nil, named}
 use Rattle.oxt_tree.specs.Names.{name_bytes}
-use Rattle.oxt_unbuilt.specs.Dropped.{is_dropped_by}
+use Rattle.oxt_declares.specs.Dropped.{is_dropped_by}
 
 -- ---- members
 

@@ -12,6 +12,7 @@ use crate::lowering::Lowering;
 use crate::metadata::{class_described, undescribed};
 use crate::tags::{class_use, is_nameless, own_use, tag_at, tag_if};
 use crate::told::Source;
+use oxt_declares::dropped::is_dropped;
 use oxt_decorated::calls::{calls_any, is_decorated};
 use oxt_decorated::private_in::holds_private_in;
 use oxt_decorated::statics::{has_static_accessor, has_static_part};
@@ -25,7 +26,6 @@ use oxt_search::first::first_in;
 use oxt_search::search::{Inside, Search, Visit};
 use oxt_tree::ids::{NodeId, OutOfMemory};
 use oxt_tree::tree::{Node, Part};
-use oxt_unbuilt::dropped::is_dropped;
 
 /// What decorators and static accessors make of the class.
 pub fn lowering_of(rules: FieldRules, class: &Node) -> Lowering

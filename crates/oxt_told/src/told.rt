@@ -22,6 +22,7 @@ use crate::strict::tell_strict;
 use crate::symbols::{around, named_symbol};
 use crate::syntax::is_pure;
 use crate::uses::tell_legacy;
+use oxt_declares::dropped::is_dropped;
 use oxt_facts::told::{Told, ToldBlock, ToldNodes};
 use oxt_fields::rules::FieldRules;
 use oxt_grammar::field::Field;
@@ -32,7 +33,6 @@ use oxt_options::rewrite::RewriteExtensionsMode;
 use oxt_scoping::scoping::Scoping;
 use oxt_tree::ids::{NodeId, OutOfMemory};
 use oxt_tree::tree::{Node, Part};
-use oxt_unbuilt::dropped::is_dropped;
 use std::alloc::Global;
 
 /// What is told under the options of the program, whose table of scopes and symbols is `scoping`: of its imports and exports,

@@ -14,8 +14,8 @@ use Rattle.oxt_tree.specs.declared.diagnostic.OxcDiagnostic.{OxcDiagnostic}
 use Rattle.oxt_io.specs.Counts.{Rose}
 use Rattle.oxt_io.specs.Passed.{AppendsPrefix, GaveAll}
 use Rattle.oxt_json.specs.Spelling.{no_value, wrong, tree, reading}
-use Rattle.oxt_json_write.specs.Spelled.{data_of, text_of}
-use Rattle.oxt_laws.specs.Laws.{TextTellsTrees}
+use Rattle.oxt_json.specs.Spelled.{data_of, text_of}
+use Rattle.oxt_json.specs.Laws.{TextTellsTrees}
 use Rattle.oxt_faults.specs.Misplaced.{Misplacement}
 use Rattle.oxt_fields.specs.Rules.{Rules}
 use Rattle.oxt_tree.specs.Syntax.{is_definition_file}

@@ -18,7 +18,7 @@ use Rattle.oxt_tree.specs.Syntax.{is_definition_file}
 use Rattle.oxt_tree.specs.declared.diagnostic.DiagnosticKind.{DiagnosticKind}
 use Rattle.oxt_tree.specs.declared.diagnostic.DiagnosticKind.TheVariants as diagnostic
 use Rattle.oxt_tree.specs.declared.diagnostic.OxcDiagnostic.{OxcDiagnostic}
-use Rattle.oxt_unbuilt.specs.Dropped.{is_dropped_by, keeps_decorators}
+use Rattle.oxt_declares.specs.Dropped.{is_dropped_by, keeps_decorators}
 
 first_false : (b c : Bool) → (b || c) ≡ false → b ≡ false
 first_false true c e = e

@@ -6,8 +6,8 @@ use Rattle.oxt_tree.specs.declared.diagnostic.DiagnosticKind.{DiagnosticKind}
 use Rattle.oxt_tree.specs.declared.diagnostic.DiagnosticKind.TheVariants as kind
 use Rattle.oxt_tree.specs.declared.diagnostic.OxcDiagnostic.{OxcDiagnostic}
 use Rattle.oxt_json.specs.Spelling.{reading, tree}
-use Rattle.oxt_json_write.specs.Spelled.{data_of, text_of}
-use Rattle.oxt_laws.specs.Numbers.{unnumbered}
+use Rattle.oxt_json.specs.Spelled.{data_of, text_of}
+use Rattle.oxt_json.specs.Numbered.{unnumbered}
 use Rattle.oxt_options.specs.Options.{TransformData}
 use Rattle.oxt_grammar.specs.declared.category.Category.TheVariants as category
 use Rattle.oxt_grammar.specs.declared.holds.Holds.TheVariants as holds

@@ -1,4 +1,0 @@
-pub mod Classes
-pub mod Moved
-pub mod Privates
-pub mod Stations

@@ -1,5 +1,0 @@
-pub mod Numbers
-pub mod Order
-pub mod Slots
-pub mod Spelled
-pub mod Tokens

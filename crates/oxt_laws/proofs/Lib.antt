@@ -1,9 +1,0 @@
-pub mod Conditions
-pub mod DistinctKeys
-pub mod Fields
-pub mod Numbers
-pub mod OneKind
-pub mod Outlines
-pub mod ReadBack
-pub mod Theorems
-pub mod Tokens

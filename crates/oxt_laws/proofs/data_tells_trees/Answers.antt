@@ -1,5 +1,0 @@
-use Rattle.oxt_laws.proofs.Theorems.{data_tells_trees}
-use Rattle.oxt_laws.proofs.data_tells_trees.Goals as goal
-
-pub returns : goal.returns
-returns c = data_tells_trees

@@ -1,5 +1,0 @@
-use Rattle.oxt_laws.proofs.Theorems.{text_reads_back}
-use Rattle.oxt_laws.proofs.text_reads_back.Goals as goal
-
-pub returns : goal.returns
-returns c = text_reads_back
