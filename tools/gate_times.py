@@ -1,16 +1,18 @@
 #!/usr/bin/env python3
 """Runs the gate from nothing in a fresh clone, and writes what it took into docs/GATE.md.
 
-    tools/gate_times.py           runs `rt ci` over what is committed, then times the functions of the dearest crates
+    tools/gate_times.py           runs .ci/gate.sh over what is committed, then times the functions of the dearest crates
     tools/gate_times.py FOLDER    times the functions alone, over the libraries that an earlier run left in that clone, and prints them
 
 Nothing else should run on the machine. Seconds are those of one processor, read off the prover's processes twice a second.
 """
 import collections
 import concurrent.futures
+import contextlib
 import os
 import pathlib
 import re
+import shutil
 import subprocess
 import sys
 import tempfile
@@ -19,6 +21,9 @@ import time
 
 REPO = pathlib.Path(__file__).resolve().parent.parent
 OUT = REPO / "docs" / "GATE.md"
+KIT = pathlib.Path(subprocess.run(["rt", "doc"], capture_output=True, text=True, check=True).stdout.strip()).parent
+# Where rt keeps what it proved and tried.
+KEPT = KIT.parent / "rattle-kept"
 TICKS = os.sysconf("SC_CLK_TCK")
 EVERY = 0.5
 # Crates whose proofs take less have no function that is listed.
@@ -46,8 +51,7 @@ def taken_by(number):
 class Spent:
     """The processor time of the processes of a run, by crate and by what they do."""
 
-    def __init__(self, runner):
-        self.runner = runner
+    def __init__(self):
         self.by_process = {}
 
     def look(self):
@@ -68,7 +72,7 @@ class Spent:
 
     def task(self, words, folder, session):
         """The crate and what is done, if the process belongs to the run; programs are run in sessions of their own, and edits in folders of their own."""
-        if f"/rt-run-{self.runner}-" in words[0]:
+        if re.search(r"/rt-run-\d+-", words[0]):
             return words[0].rsplit("/", 1)[1].partition(".")[0], PROGRAMS
         if session != os.getsid(0) or not words[0].endswith("/rattle") or "--crate-name" not in words:
             return None
@@ -84,27 +88,37 @@ class Spent:
         return seconds
 
 
-def gate_words():
-    """The words that run the gate from nothing, with as many checks at once as `.ci/run` has: a kit whose gate takes what earlier runs
-    proved is told not to."""
-    told = subprocess.run(["rt", "help"], stdout=subprocess.PIPE, stderr=subprocess.STDOUT, text=True, check=False).stdout
-    return ["bash", "-c", f"source .ci/jobs.sh; exec rt ci{' --anew' if '--anew' in told else ''}"]
+@contextlib.contextmanager
+def nothing_kept():
+    """Sets aside what earlier runs kept beside the kit, and puts it back beside what is kept meanwhile."""
+    aside = KEPT.with_suffix(".aside")
+    if KEPT.exists():
+        KEPT.rename(aside)
+    try:
+        yield
+    finally:
+        if aside.exists():
+            KEPT.mkdir(mode=0o700, exist_ok=True)
+            for old in aside.iterdir():
+                if not (KEPT / old.name).exists():
+                    old.rename(KEPT / old.name)
+            shutil.rmtree(aside)
 
 
 def run_gate(clone):
     """Runs the gate in the clone: its last line, the seconds that it took, and what was spent on what."""
-    begin = time.monotonic()
-    with open(clone / "gate.log", "w", encoding="utf-8") as log:
-        gate = subprocess.Popen(gate_words(), cwd=clone, stdout=log, stderr=subprocess.STDOUT)
-        spent = Spent(gate.pid)
+    begin, spent = time.monotonic(), Spent()
+    with nothing_kept(), open(clone / "gate.log", "w", encoding="utf-8") as log:
+        gate = subprocess.Popen([clone / ".ci" / "gate.sh"], stdout=log, stderr=subprocess.STDOUT)
         while gate.poll() is None:
             spent.look()
             time.sleep(EVERY)
+    elapsed = time.monotonic() - begin
     text = (clone / "gate.log").read_text(encoding="utf-8", errors="replace")
     last = text.rstrip().rpartition("\n")[2]
     if not LAST_LINE.match(last):
         sys.exit(f"the gate did not come to its end: {last}")
-    return last, time.monotonic() - begin, spent.by_crate()
+    return last, elapsed, spent.by_crate()
 
 
 def crates_in(clone):
@@ -127,15 +141,14 @@ def below(crates, name, found):
 
 def words_for(clone, crates, name, kept):
     """The words that check one crate anew by one process, over the libraries that stand in the clone."""
-    kit = pathlib.Path(subprocess.run(["rt", "doc"], capture_output=True, text=True, check=True).stdout.strip()).parent
     rlib = {own: clone / "crates" / own / "out" / "rlib" / f"{own}.rlib" for own in crates}
     root = "src/main.rt" if (clone / "crates" / name / "src" / "main.rt").exists() else "src/lib.rt"
-    words = [kit / "bin" / "rattle", "check", "--crate-name", name, root, "-L", f"dependency={kit}/rlibs"]
+    words = [KIT / "bin" / "rattle", "check", "--crate-name", name, root, "-L", f"dependency={KIT}/rlibs"]
     for library in ["std", *crates[name]]:
-        words += ["--extern", f"{library}={rlib.get(library, f'{kit}/rlibs/{library}.rlib')}"]
+        words += ["--extern", f"{library}={rlib.get(library, f'{KIT}/rlibs/{library}.rlib')}"]
     for library in below(crates, name, []):
         words += ["-L", f"dependency={rlib[library].parent}"]
-    words += ["--antt-project", f"{kit}/rattle/logic/antt-project.json", "--logic-built", f"{kit}/logic_built"]
+    words += ["--antt-project", f"{KIT}/rattle/logic/antt-project.json", "--logic-built", f"{KIT}/logic_built"]
     return [*words, "--links", f"{name}=", "--jobs", "1", "--progress", "--incremental", kept]
 
 
@@ -174,7 +187,7 @@ def page(last, elapsed, seconds, slow):
     return "\n".join([
         "# What the gate costs",
         "",
-        "Written by `tools/gate_times.py`, which runs `rt ci` from nothing in a fresh clone.",
+        "Written by `tools/gate_times.py`, which runs `.ci/gate.sh` from nothing in a fresh clone.",
         "",
         f"{elapsed / 60:.0f} minutes on {cores} idle cores and {memory} GB: {last}. Of one processor it would take "
         f"{sum(sums.values()) / 60:.0f} minutes.",

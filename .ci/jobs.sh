@@ -1,4 +1,0 @@
-# Sourced. How many checks the gate makes at once: one a core, if 4 GB of memory are there for each; the dearest was seen to hold 4.9, most under 3.
-# By itself rt plans 6 to 10 GB for each of the larger crates, and leaves cores idle with 24 GB.
-fitting=$(($(awk '/^MemTotal/ {print $2}' /proc/meminfo) / 4000000))
-export RT_JOBS=$((fitting < 1 ? 1 : fitting < $(nproc) ? fitting : $(nproc)))
