@@ -1,7 +1,7 @@
 #!/usr/bin/env python3
 """Runs the gate from nothing in a fresh clone, and writes what it took into docs/GATE.md.
 
-    tools/gate_times.py           runs .ci/gate.sh over what is committed, then times the functions of the dearest crates
+    tools/gate_times.py           runs `rt ci` as .ci/run does over what is committed, then times the functions of the dearest crates
     tools/gate_times.py FOLDER    times the functions alone, over the libraries that an earlier run left in that clone, and prints them
 
 Nothing else should run on the machine. Seconds are those of one processor, read off the prover's processes twice a second.
@@ -109,7 +109,7 @@ def run_gate(clone):
     """Runs the gate in the clone: its last line, the seconds that it took, and what was spent on what."""
     begin, spent = time.monotonic(), Spent()
     with nothing_kept(), open(clone / "gate.log", "w", encoding="utf-8") as log:
-        gate = subprocess.Popen([clone / ".ci" / "gate.sh"], stdout=log, stderr=subprocess.STDOUT)
+        gate = subprocess.Popen(["bash", "-c", "source .ci/jobs.sh; exec rt ci"], cwd=clone, stdout=log, stderr=subprocess.STDOUT)
         while gate.poll() is None:
             spent.look()
             time.sleep(EVERY)
@@ -187,7 +187,7 @@ def page(last, elapsed, seconds, slow):
     return "\n".join([
         "# What the gate costs",
         "",
-        "Written by `tools/gate_times.py`, which runs `.ci/gate.sh` from nothing in a fresh clone.",
+        "Written by `tools/gate_times.py`, which runs `rt ci` from nothing in a fresh clone, with as many checks at once as `.ci/run` makes.",
         "",
         f"{elapsed / 60:.0f} minutes on {cores} idle cores and {memory} GB: {last}. Of one processor it would take "
         f"{sum(sums.values()) / 60:.0f} minutes.",

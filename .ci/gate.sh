@@ -1,9 +1,0 @@
-#!/usr/bin/env bash
-# Proves all, tries the edits and runs the programs. tools/gate_times.py times this.
-set -euo pipefail
-cd "$(dirname "$0")/.."
-# One check more than there are processors, so that these have work when checks wait for one another, if 3.5 GB of memory are there for each; the
-# dearest was seen to hold 5, most under 3. By itself rt plans 6 to 10 GB for each of the larger crates, and leaves cores idle with 24 GB.
-fitting=$(($(awk '/^MemTotal/ {print $2}' /proc/meminfo) / 3500000))
-checks=$(($(nproc) + 1))
-RT_JOBS=$((fitting < 1 ? 1 : fitting < checks ? fitting : checks)) rt ci
