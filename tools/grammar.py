@@ -215,14 +215,14 @@ ghost use Rattle.oxt_grammar.specs.Context.{{condition_of, setting_of}};
 use crate::kind::Kind;
 
 /// A condition on a node beside what its fields hold.
-#[derive(Clone, Copy, PartialEq, Eq)]
+#[derive(Clone, Copy)]
 pub enum Condition {{
     Nothing,
 {variants(g.conditions)}
 }}
 
 /// What a node stands directly in, as far as that narrows what its fields hold.
-#[derive(Clone, Copy, PartialEq, Eq)]
+#[derive(Clone, Copy)]
 pub enum Setting {{
     Elsewhere,
 {variants(g.settings)}
@@ -366,7 +366,7 @@ ghost use Rattle.oxt_grammar.specs.Categories.{{kinds_in}};
 use crate::kind::Kind;
 
 /// A set of kinds that may stand at a place.
-#[derive(Clone, Copy, PartialEq, Eq)]
+#[derive(Clone, Copy)]
 pub enum Category {{
 {variants(g.categories)}
 }}
@@ -421,7 +421,7 @@ ghost use Rattle.std.specs.Str.{{bytes_eq}};
 ghost use Rattle.oxt_grammar.specs.Words.{{text_of, words_in}};
 
 /// A word that a field may hold.
-#[derive(Clone, Copy, PartialEq, Eq)]
+#[derive(Clone, Copy)]
 pub enum Word {{
 {variants(map(word_variant, all_words))}
 }}
@@ -438,7 +438,7 @@ impl Word {{
 }}
 
 /// The words that a field may hold, named after the field.
-#[derive(Clone, Copy, PartialEq, Eq)]
+#[derive(Clone, Copy)]
 pub enum Words {{
 {variants(g.words)}
 }}

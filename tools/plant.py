@@ -414,8 +414,8 @@ IMPORTS = """use oxt_ctx::nodes::{assignment, computed, declaration, empty_objec
 use oxt_grammar::field::Field;
 use oxt_grammar::word::Word;
 use oxt_tree::fields::place_of;
-use oxt_tree::ids::NodeIds;
-use oxt_tree::name::Name;
+use oxt_names::ids::NodeIds;
+use oxt_names::name::Name;
 use std::alloc::Global;
 use crate::inline::inline_constant;"""
 # The example, the flags and the bugs of each run.

@@ -6,9 +6,9 @@ use oxt_check::named::{
 };
 use oxt_lines::lines::Lines;
 use oxt_lines::stopped::Stopped;
-use oxt_tree::diagnostic::{DiagnosticKind, OxcDiagnostic};
-use oxt_tree::ids::Span;
-use oxt_tree::lines::append_lines;
+use oxt_names::diagnostic::{DiagnosticKind, OxcDiagnostic};
+use oxt_names::ids::Span;
+use oxt_names::lines::append_lines;
 use std::alloc::Global;
 
 /// All kinds.

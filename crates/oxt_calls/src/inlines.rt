@@ -9,10 +9,10 @@ use oxt_lines::table::Table;
 use oxt_metadata::symbols::NamedSymbols;
 use oxt_modules::kept::kept_nodes;
 use oxt_names::constant::ConstantValue;
+use oxt_names::ids::NodeId;
 use oxt_options::options::TypeScriptOptions;
 use oxt_resolve::resolve::resolve;
 use oxt_scoping::scoping::Scoping;
-use oxt_tree::ids::NodeId;
 use oxt_tree::tree::Node;
 use std::alloc::Global;
 

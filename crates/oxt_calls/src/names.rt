@@ -4,6 +4,7 @@ use oxt_lines::lines::Lines;
 use oxt_lines::stopped::Stopped;
 use oxt_lines::table::Table;
 use oxt_names::uid::UidNames;
+use oxt_resolve::names::taken_names;
 use oxt_tree::tree::Node;
 use std::alloc::Global;
 
@@ -91,7 +92,7 @@ fn beside_a_tree(alloc: Global, table: &Table, lines: &mut Lines) -> Result<(), 
 }
 
 fn beside_the_names_of(alloc: Global, root: &Node, lines: &mut Lines) -> Result<(), Stopped> {
-    let mut names = UidNames::of_tree(alloc, root)?;
+    let mut names = taken_names(alloc, root)?;
     let texts = ["a", "b", "c", "d", "e", "f", "g"];
     let label =
         "beside a binding _a, a use _b, a key _c, a string _d, members _e, _f, _g, made of a to g";

@@ -2,10 +2,10 @@
 
 use oxt_lines::lines::Lines;
 use oxt_lines::stopped::Stopped;
+use oxt_names::name::Name;
 use oxt_options::options::{DecoratorOptions, Module, TransformOptions, TypeScriptOptions};
 use oxt_options::rewrite::{RewriteExtensionsMode, parse_rewrite_import_extensions};
 use oxt_options::state::TransformState;
-use oxt_tree::name::Name;
 use std::alloc::Global;
 
 /// The defaults, the words for extensions, names of modules, and a state.

@@ -4,9 +4,9 @@ use oxt_facts::owners::NameGroups;
 use oxt_lines::lines::Lines;
 use oxt_lines::stopped::Stopped;
 use oxt_lines::table::Table;
+use oxt_names::ids::NodeId;
 use oxt_resolve::resolve::resolve;
 use oxt_told::groups::groups_of;
-use oxt_tree::ids::NodeId;
 use std::alloc::Global;
 
 /// The groups of names in trees, by their nodes: of the use of `x` first.

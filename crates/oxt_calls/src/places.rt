@@ -3,9 +3,9 @@
 use oxt_lines::lines::Lines;
 use oxt_lines::stopped::Stopped;
 use oxt_lines::table::Table;
-use oxt_tree::ids::NodeId;
-use oxt_tree::place::place_of;
+use oxt_names::ids::NodeId;
 use oxt_tree::tree::Node;
+use oxt_valid::place_of::place_of;
 use std::alloc::Global;
 
 /// The places of a program, of a node in it, and of none.

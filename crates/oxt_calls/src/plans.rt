@@ -3,10 +3,10 @@
 use oxt_lines::lines::Lines;
 use oxt_lines::stopped::Stopped;
 use oxt_names::constant::ConstantValue;
+use oxt_names::ids::NodeId;
+use oxt_names::name::Name;
 use oxt_options::lists::PlanLists;
 use oxt_options::plan::Plan;
-use oxt_tree::ids::NodeId;
-use oxt_tree::name::Name;
 use std::alloc::{AllocError, Global};
 
 /// A question that a plan answers of each node.

@@ -1,9 +1,9 @@
 //! A pass that writes down each hook.
 
 use oxt_ctx::context::TraverseCtx;
+use oxt_names::ids::OutOfMemory;
 use oxt_traverse::hook::Hook;
 use oxt_traverse::pass::Pass;
-use oxt_tree::ids::OutOfMemory;
 use oxt_tree::tree::{Node, Part};
 use std::alloc::Global;
 

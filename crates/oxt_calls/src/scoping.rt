@@ -7,13 +7,12 @@ use oxt_lines::stopped::Stopped;
 use oxt_lines::table::Table;
 use oxt_names::constant::ConstantValue;
 use oxt_names::flags::{ReferenceFlags, ScopeFlags, SymbolFlags};
-use oxt_names::ids::{ReferenceId, ScopeId, SymbolId};
+use oxt_names::ids::{NodeId, ReferenceId, ScopeId, SymbolId};
+use oxt_names::name::Name;
 use oxt_names::uid::UidNames;
 use oxt_resolve::resolve::resolve;
 use oxt_scoping::entry::Redeclaration;
 use oxt_scoping::scoping::Scoping;
-use oxt_tree::ids::NodeId;
-use oxt_tree::name::Name;
 use oxt_tree::tree::Node;
 use std::alloc::Global;
 

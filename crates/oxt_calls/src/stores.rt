@@ -8,13 +8,12 @@ use oxt_lines::lines::Lines;
 use oxt_lines::nodes::{literal, named, node, statement, statements};
 use oxt_lines::source::{push_declaration, source_of};
 use oxt_lines::stopped::Stopped;
-use oxt_names::ids::SymbolId;
+use oxt_names::ids::{NodeId, NodeIds, SymbolId};
+use oxt_names::name::Name;
 use oxt_stores::bound::BoundIdentifier;
 use oxt_stores::declarations::VarDeclarationsStore;
 use oxt_stores::injector::StatementInjectorStore;
 use oxt_stores::sparse::SparseStack;
-use oxt_tree::ids::{NodeId, NodeIds};
-use oxt_tree::name::Name;
 use oxt_tree::tree::{Node, Part};
 use std::alloc::Global;
 

@@ -2,13 +2,13 @@
 
 use crate::plans::push_constant;
 use bitflags::Flags;
+use oxt_constant::operator::{BinaryOperator, UnaryOperator};
 use oxt_lines::lines::Lines;
 use oxt_lines::stopped::Stopped;
 use oxt_lines::table::Table;
 use oxt_names::constant::ConstantValue;
 use oxt_names::flags::{ReferenceFlags, ScopeFlags, SymbolFlags};
-use oxt_names::operator::{BinaryOperator, UnaryOperator};
-use oxt_tree::name::Name;
+use oxt_names::name::Name;
 use serde_json::Value;
 use std::alloc::Global;
 

@@ -5,7 +5,7 @@ use oxt_check::targets::WrappedTargets;
 use oxt_lines::lines::Lines;
 use oxt_lines::stopped::Stopped;
 use oxt_lines::table::Table;
-use oxt_tree::ids::NodeId;
+use oxt_names::ids::NodeId;
 use oxt_tree::tree::Node;
 use std::alloc::Global;
 

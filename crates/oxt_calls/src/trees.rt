@@ -7,10 +7,10 @@ use oxt_lines::nodes::{first_expression, named, node, statement_at};
 use oxt_lines::source::outline_of;
 use oxt_lines::stopped::Stopped;
 use oxt_lines::table::Table;
-use oxt_tree::ids::NodeIds;
-use oxt_tree::name::Name;
-use oxt_tree::pointer::{below, below_index};
+use oxt_names::ids::NodeIds;
+use oxt_names::name::Name;
 use oxt_tree::tree::{Node, Part};
+use oxt_valid::pointer::{below, below_index};
 use std::alloc::Global;
 
 /// The calls on trees.

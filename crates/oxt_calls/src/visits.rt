@@ -3,7 +3,7 @@
 use oxt_lines::lines::Lines;
 use oxt_lines::stopped::Stopped;
 use oxt_lines::table::Table;
-use oxt_tree::ids::{NodeId, OutOfMemory};
+use oxt_names::ids::{NodeId, OutOfMemory};
 use oxt_tree::tree::{Node, Part, Program};
 use oxt_visit::visitor::VisitJsMut;
 use oxt_visit::walk::visit_js_mut_statements;

@@ -9,7 +9,7 @@ use oxt_grammar::kind::Kind;
 use oxt_grammar::word::Word;
 use oxt_lines::lines::Lines;
 use oxt_lines::stopped::Stopped;
-use oxt_tree::name::Name;
+use oxt_names::name::Name;
 use std::alloc::Global;
 use std::slice;
 

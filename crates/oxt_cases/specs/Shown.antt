@@ -8,7 +8,7 @@ use Rattle.oxt_json.specs.Faults.{IfShape, OnJson}
 use Rattle.oxt_json.specs.Spelling.{no_value, reading, tree, wrong}
 use Rattle.oxt_json.specs.declared.read.ReadFault.{ReadFault}
 use Rattle.oxt_tree.specs.Doc.{Doc}
-use Rattle.oxt_tree.specs.Names.{name_bytes}
+use Rattle.oxt_names.specs.Names.{name_bytes}
 use Rattle.oxt_facts.specs.Facts.{of_source}
 use Rattle.oxt_word.specs.Word.{word}
 use Rattle.oxt_cases.specs.Lines.{lines}

@@ -3,9 +3,9 @@
 use crate::pieces::{Piece, put};
 use oxt_enum_checks::clash::first_clash;
 use oxt_enum_checks::first::first_blocks;
+use oxt_names::ids::{NodeId, OutOfMemory};
 use oxt_resolve::resolve::resolve;
 use oxt_scoping::scoping::Scoping;
-use oxt_tree::ids::{NodeId, OutOfMemory};
 use oxt_tree::tree::Node;
 use std::alloc::Global;
 

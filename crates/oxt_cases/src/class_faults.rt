@@ -5,10 +5,10 @@ use crate::told::plan_of;
 use oxt_class_checks::misplaced::{ClassFault, MisplacedElement, first_misplaced_element};
 use oxt_faults::moved::{MovedName, first_moved_capture};
 use oxt_fields::rules::FieldRules;
+use oxt_names::ids::OutOfMemory;
 use oxt_options::options::TransformOptions;
 use oxt_resolve::resolve::resolve;
 use oxt_scoping::scoping::Scoping;
-use oxt_tree::ids::OutOfMemory;
 use oxt_tree::tree::Node;
 use std::alloc::Global;
 

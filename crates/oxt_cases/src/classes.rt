@@ -3,8 +3,8 @@
 use crate::decorated::put_call_of;
 use crate::pieces::{Piece, put};
 use oxt_facts::told::{ToldClass, ToldField, ToldName};
-use oxt_tree::ids::OutOfMemory;
-use oxt_tree::name::Name;
+use oxt_names::ids::OutOfMemory;
+use oxt_names::name::Name;
 
 /// Puts `NUMBER gains PLACE constructor derived`, and behind that the names of its properties, and of the fields that
 /// stand in front, each with a star.

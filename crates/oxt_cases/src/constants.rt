@@ -6,10 +6,10 @@ use oxt_enums::constants::MemberConstant;
 use oxt_enums::enums::{EnumConstants, constants_of};
 use oxt_enums::members::{Member, members_of};
 use oxt_names::constant::ConstantValue;
+use oxt_names::ids::OutOfMemory;
+use oxt_names::name::Name;
 use oxt_scopes::owners::owners_of;
 use oxt_scopes::scopes::{OpenedScope, scopes_of};
-use oxt_tree::ids::OutOfMemory;
-use oxt_tree::name::Name;
 use oxt_tree::tree::Node;
 use std::alloc::Global;
 

@@ -4,8 +4,8 @@ use crate::pieces::{Piece, put};
 use oxt_facts::told::{
     ToldAccessor, ToldCall, ToldDecorated, ToldElement, ToldObject, ToldStorage, ToldUse,
 };
-use oxt_tree::ids::OutOfMemory;
-use oxt_tree::name::Name;
+use oxt_names::ids::OutOfMemory;
+use oxt_names::name::Name;
 
 /// Puts `NUMBER called stays` and the call.
 ///

@@ -1,14 +1,13 @@
 //! Where words differ.
 
 use crate::pieces::{Piece, put};
-use crate::words::{facts_of_output, facts_with, put_grouped, put_items, word_by};
+use crate::words::{facts_of_output, facts_with, put_grouped_item, put_item, word_by};
 use oxt_facts::compare::{Difference, first_difference};
 use oxt_facts::item::Item;
 use oxt_facts::told::ToldNodes;
-use oxt_tree::ids::OutOfMemory;
+use oxt_names::ids::OutOfMemory;
 use oxt_tree::tree::Node;
 use std::alloc::Global;
-use std::slice;
 
 /// Puts the place of the first item in which the word of the output differs from that of the source, the item of the
 /// source and that of the output, a line each, with `-` where a word has ended; `same` where they do not differ. Where
@@ -66,20 +65,20 @@ fn put_difference(
         Piece::Text("\n"),
     ];
     put(lines, &line)?;
-    put_item(alloc, difference.source, is_of_owners, lines)?;
-    put_item(alloc, difference.output, is_of_owners, lines)
+    put_line(alloc, difference.source, is_of_owners, lines)?;
+    put_line(alloc, difference.output, is_of_owners, lines)
 }
 
 /// Puts the line of an item, with its group or not.
-fn put_item(
+fn put_line(
     alloc: Global,
     item: Option<&Item>,
     is_grouped: bool,
     lines: &mut String,
 ) -> Result<(), OutOfMemory> {
     match item {
-        Some(item) if is_grouped => put_grouped(alloc, slice::from_ref(item), lines),
-        Some(item) => put_items(alloc, slice::from_ref(item), lines),
+        Some(item) if is_grouped => put_grouped_item(alloc, item, lines),
+        Some(item) => put_item(alloc, item, lines),
         None => put(lines, &[Piece::Text("-\n")]),
     }
 }

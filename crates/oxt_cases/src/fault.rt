@@ -4,7 +4,7 @@ ghost use Rattle.oxt_cases.specs.declared.fault.Fault.TheVariants.{Memory};
 
 use oxt_io::InputFault;
 use oxt_json::ReadFault;
-use oxt_tree::ids::OutOfMemory;
+use oxt_names::ids::OutOfMemory;
 use std::alloc::AllocError;
 use thiserror::Error;
 

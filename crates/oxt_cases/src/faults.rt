@@ -4,9 +4,9 @@ use crate::pieces::{Piece, put};
 use oxt_enum_checks::misnamed::first_misnamed;
 use oxt_enum_checks::shadowed::{ShadowedName, first_shadowed};
 use oxt_enum_checks::wide::first_wide;
+use oxt_names::ids::{NodeId, OutOfMemory};
 use oxt_resolve::resolve::resolve;
 use oxt_scoping::scoping::Scoping;
-use oxt_tree::ids::{NodeId, OutOfMemory};
 use oxt_tree::tree::Node;
 use std::alloc::Global;
 

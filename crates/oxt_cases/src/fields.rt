@@ -12,11 +12,11 @@ use oxt_fields::rules::FieldRules;
 use oxt_fields::written::never_written_nodes;
 use oxt_grammar::field::Field;
 use oxt_grammar::kind::Kind;
+use oxt_names::ids::OutOfMemory;
 use oxt_options::options::TransformOptions;
 use oxt_options::plan::Plan;
 use oxt_resolve::resolve::resolve;
 use oxt_scoping::scoping::Scoping;
-use oxt_tree::ids::OutOfMemory;
 use oxt_tree::tree::{Node, Part};
 use std::alloc::Global;
 

@@ -25,6 +25,19 @@ pub fn lines_of(alloc: Global, items: &[Item]) -> Result<Vec<u8>, AllocError>
     Ok(bytes)
 }
 
+/// The line of an item.
+///
+/// # Errors
+///
+/// Fails only where memory runs out.
+pub fn line_of(alloc: Global, item: &Item) -> Result<Vec<u8>, AllocError>
+    ensures { IfOk result (λ bytes. bytes.items ≡ line (entry_of item.now)) }
+{
+    let mut bytes = Vec::new(alloc);
+    put_line(alloc, item, &mut bytes)?;
+    Ok(bytes)
+}
+
 /// Puts the line of an item.
 fn put_line(alloc: Global, item: &Item, bytes: &mut Vec<u8>) -> Result<(), AllocError>
     ensures { OnOk result (bytes.new.items ≡ bytes.old.items ++ line (entry_of item.now)) }

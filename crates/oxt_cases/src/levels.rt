@@ -3,7 +3,7 @@
 use crate::pieces::{Piece, put};
 use oxt_faults::level::{FoundWord, first_level_word, first_level_word_in};
 use oxt_grammar::field::Field;
-use oxt_tree::ids::OutOfMemory;
+use oxt_names::ids::OutOfMemory;
 use oxt_tree::tree::{Node, Part};
 
 /// Puts a line for each statement of the program, and one for all of them: the first word at their level and the

@@ -3,7 +3,7 @@
 use crate::classes::put_told_names;
 use crate::pieces::{Piece, put};
 use oxt_facts::told::{ToldExport, ToldNamespace, ToldQuasi, ToldStored};
-use oxt_tree::ids::OutOfMemory;
+use oxt_names::ids::OutOfMemory;
 
 /// Puts `NUMBER namespace NAME TAG BASE first`, with `-` where no block exports it.
 ///

@@ -1,6 +1,6 @@
 //! The nodes of a tree.
 
-use oxt_tree::ids::OutOfMemory;
+use oxt_names::ids::OutOfMemory;
 use oxt_tree::tree::{Node, Part};
 use std::alloc::Global;
 

@@ -1,7 +1,7 @@
 //! Lines, put together from pieces.
 
-use oxt_tree::ids::{NodeId, OutOfMemory};
-use oxt_tree::name::Name;
+use oxt_names::ids::{NodeId, OutOfMemory};
+use oxt_names::name::Name;
 
 /// A piece of a line.
 #[derive(Clone, Copy)]

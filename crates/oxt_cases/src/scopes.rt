@@ -5,11 +5,10 @@ ghost use Rattle.oxt_scoping.specs.Scoped.{live_at};
 use crate::nodes::nodes_of;
 use crate::pieces::{Piece, put};
 use bitflags::{Flag, Flags};
-use oxt_names::ids::{ReferenceId, ScopeId, SymbolId};
+use oxt_names::ids::{NodeId, OutOfMemory, ReferenceId, ScopeId, SymbolId};
 use oxt_resolve::resolve::resolve;
 use oxt_scoping::entry::Redeclaration;
 use oxt_scoping::scoping::Scoping;
-use oxt_tree::ids::{NodeId, OutOfMemory};
 use oxt_tree::tree::Node;
 use std::alloc::Global;
 

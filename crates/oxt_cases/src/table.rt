@@ -6,8 +6,8 @@ use crate::{
     scopes, told, words,
 };
 use anyhow::Result;
+use oxt_names::ids::OutOfMemory;
 use oxt_options::options::TransformOptions;
-use oxt_tree::ids::OutOfMemory;
 use oxt_tree::tree::Node;
 use std::alloc::{AllocError, Global};
 

@@ -15,13 +15,13 @@ use oxt_metadata::Metadata;
 use oxt_metadata::symbols::NamedSymbols;
 use oxt_modules::kept::kept_nodes;
 use oxt_names::constant::ConstantValue;
+use oxt_names::ids::{NodeId, OutOfMemory};
 use oxt_options::lists::PlanLists;
 use oxt_options::options::{DecoratorOptions, TransformOptions, TypeScriptOptions};
 use oxt_options::plan::Plan;
 use oxt_resolve::resolve::resolve;
 use oxt_scoping::scoping::Scoping;
 use oxt_told::told::told_of_source;
-use oxt_tree::ids::{NodeId, OutOfMemory};
 use oxt_tree::tree::{Node, Program};
 use std::alloc::Global;
 

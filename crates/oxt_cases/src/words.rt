@@ -7,15 +7,15 @@ use oxt_facts::facts::Facts;
 use oxt_facts::item::Item;
 use oxt_facts::owners::NameGroups;
 use oxt_facts::told::ToldNodes;
+use oxt_names::ids::OutOfMemory;
 use oxt_names::uid::UidNames;
 use oxt_options::options::TransformOptions;
+use oxt_resolve::names::taken_names;
 use oxt_resolve::resolve::resolve;
 use oxt_told::groups::groups_of;
-use oxt_tree::ids::OutOfMemory;
 use oxt_tree::tree::Node;
 use oxt_word::word::word_of;
 use std::alloc::Global;
-use std::slice;
 
 /// Puts the lines of the word of the tree, as that of a source.
 ///
@@ -107,7 +107,7 @@ pub fn put_output(
 ///
 /// Fails only where memory runs out.
 pub fn facts_of_output(alloc: Global, source: &Node, output: &Node) -> Result<Facts, OutOfMemory> {
-    let names = UidNames::of_tree(alloc, source)?;
+    let names = taken_names(alloc, source)?;
     let facts = facts_by(alloc, &names, output);
     drop(names);
     facts
@@ -148,7 +148,22 @@ fn put_word(
 /// Fails only where memory runs out.
 pub fn put_items(alloc: Global, items: &[Item], lines: &mut String) -> Result<(), OutOfMemory> {
     let bytes = items::lines_of(alloc, items)?;
-    match str::from_utf8(bytes.as_slice()) {
+    put_bytes(bytes.as_slice(), lines)
+}
+
+/// Puts the line of an item.
+///
+/// # Errors
+///
+/// Fails only where memory runs out.
+pub fn put_item(alloc: Global, item: &Item, lines: &mut String) -> Result<(), OutOfMemory> {
+    let bytes = items::line_of(alloc, item)?;
+    put_bytes(bytes.as_slice(), lines)
+}
+
+/// Puts the text that the bytes are.
+fn put_bytes(bytes: &[u8], lines: &mut String) -> Result<(), OutOfMemory> {
+    match str::from_utf8(bytes) {
         Ok(text) => put(lines, &[Piece::Text(text)]),
         Err(_) => Ok(()),
     }
@@ -161,12 +176,21 @@ pub fn put_items(alloc: Global, items: &[Item], lines: &mut String) -> Result<()
 /// Fails only where memory runs out.
 pub fn put_grouped(alloc: Global, items: &[Item], lines: &mut String) -> Result<(), OutOfMemory> {
     for item in items {
-        match item.group {
-            Some(group) => put_with_group(alloc, item, group, lines)?,
-            None => put_items(alloc, slice::from_ref(item), lines)?,
-        }
+        put_grouped_item(alloc, item, lines)?;
     }
     Ok(())
+}
+
+/// Puts the line of an item, with the group of its name at the end of the array, if it has one.
+///
+/// # Errors
+///
+/// Fails only where memory runs out.
+pub fn put_grouped_item(alloc: Global, item: &Item, lines: &mut String) -> Result<(), OutOfMemory> {
+    match item.group {
+        Some(group) => put_with_group(alloc, item, group, lines),
+        None => put_item(alloc, item, lines),
+    }
 }
 
 /// Puts the line of an item whose name has that group.
@@ -177,7 +201,7 @@ fn put_with_group(
     lines: &mut String,
 ) -> Result<(), OutOfMemory> {
     let mut line = String::new(alloc);
-    put_items(alloc, slice::from_ref(item), &mut line)?;
+    put_item(alloc, item, &mut line)?;
     put_joined(line.as_str(), group, lines)
 }
 

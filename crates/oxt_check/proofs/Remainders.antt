@@ -7,7 +7,7 @@ use Rattle.oxt_grammar.specs.declared.holds.Holds.{Holds}
 use Rattle.oxt_grammar.specs.declared.holds.Row.{Row}
 use Rattle.oxt_check.specs.Beside.{beside_in_each, beside_in_fields, first_typescript_beside, in_row}
 use Rattle.oxt_check.specs.Targets.{held_by}
-use Rattle.oxt_tree.proofs.Lists.{drop_at, drop_end}
+use Rattle.oxt_names.proofs.Lists.{drop_at, drop_end}
 use Rattle.oxt_tree.specs.Doc.{Docs, doc, Doc}
 use Rattle.oxt_tree.specs.View.{docs_in, part_doc}
 use Rattle.oxt_tree.specs.declared.tree.Part.{Part}

@@ -6,9 +6,9 @@ use Rattle.oxt_grammar.specs.declared.holds.Row.{Row}
 use Rattle.oxt_check.specs.Diagnostics.{told_among, told_below, told_in}
 use Rattle.oxt_check.specs.declared.seat.Seat.{Seat}
 use Rattle.oxt_options.specs.Options.{TransformData}
-use Rattle.oxt_tree.proofs.Lists.{drop_at, drop_end}
+use Rattle.oxt_names.proofs.Lists.{drop_at, drop_end}
 use Rattle.oxt_tree.specs.View.{docs_in, part_doc}
-use Rattle.oxt_tree.specs.declared.diagnostic.OxcDiagnostic.{OxcDiagnostic}
+use Rattle.oxt_names.specs.declared.diagnostic.OxcDiagnostic.{OxcDiagnostic}
 use Rattle.oxt_tree.specs.declared.tree.Part.{Part}
 
 pub each_end : (before : List OxcDiagnostic) (ks : ℕ → Bool) (o : TransformData) (s : Seat) (h : Holds) (ps : List Part) (i : ℕ) → length ps ≤ i → before ++ told_among (docs_in (drop i ps)) ks o s h ≡ before

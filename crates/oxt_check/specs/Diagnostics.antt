@@ -20,9 +20,9 @@ use Rattle.oxt_options.specs.declared.options.Module.TheVariants as «module»
 use Rattle.oxt_tree.specs.Doc.{Doc, nil, flag, number, text, list, node, Docs, no_docs, doc}
 use Rattle.oxt_tree.specs.Fields.{is_set, named}
 use Rattle.oxt_tree.specs.Syntax.{is_definition_file}
-use Rattle.oxt_tree.specs.declared.diagnostic.DiagnosticKind.{DiagnosticKind}
-use Rattle.oxt_tree.specs.declared.diagnostic.DiagnosticKind.TheVariants as diagnostic
-use Rattle.oxt_tree.specs.declared.diagnostic.OxcDiagnostic.{OxcDiagnostic}
+use Rattle.oxt_names.specs.declared.diagnostic.DiagnosticKind.{DiagnosticKind}
+use Rattle.oxt_names.specs.declared.diagnostic.DiagnosticKind.TheVariants as diagnostic
+use Rattle.oxt_names.specs.declared.diagnostic.OxcDiagnostic.{OxcDiagnostic}
 use Rattle.oxt_declares.specs.Dropped.{is_dropped_by, keeps_decorators}
 
 -- a diagnostic of that kind from there to there

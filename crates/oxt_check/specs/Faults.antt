@@ -20,13 +20,13 @@ use Rattle.oxt_metadata.specs.Symbols.{types_in, written_in}
 use Rattle.oxt_metadata.specs.Whole.{Written, metadata_of}
 use Rattle.oxt_modules.specs.Kept.{kept}
 use Rattle.oxt_options.specs.Options.{TransformData}
-use Rattle.oxt_tree.specs.Place.{place_of}
+use Rattle.oxt_valid.specs.Place.{place_of}
 use Rattle.oxt_options.specs.Facts.{Facts, is_in, last_alias, last_constant}
 use Rattle.oxt_options.specs.Metadata.{last_type}
 use Rattle.oxt_scoping.specs.Scoped.{Scoped}
 use Rattle.oxt_tree.specs.Doc.{Doc}
 use Rattle.oxt_tree.specs.Syntax.{is_definition_file}
-use Rattle.oxt_tree.specs.Names.{name_bytes}
+use Rattle.oxt_names.specs.Names.{name_bytes}
 
 -- the refusal that a fault is; none for want of memory
 abbrev pub refusal_in : Fault → Option Refusal

@@ -4,8 +4,8 @@ use Rattle.oxt_check.specs.declared.fault.Mismatch.{Mismatch}
 use Rattle.oxt_check.specs.declared.fault.Mismatch.TheVariants.{Shape, Plain, Setting, Item, Owner, Binding}
 use Rattle.oxt_faults.specs.declared.misplaced.MisplacedKind.{MisplacedKind}
 use Rattle.oxt_faults.specs.declared.misplaced.MisplacedKind.TheVariants.{Body, Namespace, Merge, Enum, Super, Key, Field, Decorator, Accessor}
-use Rattle.oxt_tree.specs.Names.{name_bytes}
-use Rattle.oxt_tree.specs.declared.ids.Span.{Span}
+use Rattle.oxt_names.specs.Names.{name_bytes}
+use Rattle.oxt_names.specs.declared.ids.Span.{Span}
 
 -- how a lowered tree differs from what it has to be: the first place at which it is none of the
 -- grammar, the first at which something of TypeScript is left, a setting of the program, the first item

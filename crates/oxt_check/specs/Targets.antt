@@ -11,7 +11,7 @@ use Rattle.oxt_tree.specs.Doc.{Doc, nil, flag, number, text, list, node, Docs, n
 use Rattle.oxt_tree.specs.Fields.{is_in}
 use Rattle.oxt_tree.specs.Inner.{inner_expression}
 use Rattle.oxt_tree.specs.Syntax.{is_definition_file}
-use Rattle.oxt_tree.specs.declared.ids.NodeId.{NodeId}
+use Rattle.oxt_names.specs.declared.ids.NodeId.{NodeId}
 use Rattle.oxt_declares.specs.Dropped.{is_dropped_by, keeps_decorators}
 
 -- the numbers of the nodes

@@ -5,15 +5,15 @@ ghost use Rattle.oxt_grammar.specs.declared.category.Category.TheVariants as cat
 ghost use Rattle.oxt_grammar.specs.declared.holds.Holds.TheVariants as holds;
 ghost use Rattle.oxt_check.specs.Beside.{below_first, beside_in_each, beside_in_fields, beside_in_first, first_typescript_beside, in_row, is_kept, is_plain_beside};
 ghost use Rattle.oxt_check.specs.Targets.{held_by, is_listed};
-ghost use Rattle.oxt_tree.specs.Names.{name_bytes};
+ghost use Rattle.oxt_names.specs.Names.{name_bytes};
 ghost use Rattle.oxt_tree.specs.View.{docs_in, node_doc, part_doc};
 
 use crate::targets::WrappedTargets;
 use crate::wrapped::{held_by, is_wrapped_target};
 use oxt_grammar::category::Category;
 use oxt_grammar::holds::{Holds, Row};
-use oxt_tree::ids::OutOfMemory;
-use oxt_tree::name::Name;
+use oxt_names::ids::OutOfMemory;
+use oxt_names::name::Name;
 use oxt_tree::tree::{Node, Part};
 use oxt_valid::place::{at, place_below, place_below_index};
 use std::alloc::Global;

@@ -27,8 +27,8 @@ use oxt_fields::rules::FieldRules;
 use oxt_grammar::kind::Kind;
 use oxt_modules::alias::left_out_names;
 use oxt_modules::nodes::NodeList;
+use oxt_names::ids::{NodeId, OutOfMemory};
 use oxt_scoping::scoping::Scoping;
-use oxt_tree::ids::{NodeId, OutOfMemory};
 use oxt_tree::tree::Node;
 use std::alloc::Global;
 

@@ -8,7 +8,7 @@ ghost use Rattle.oxt_fields.specs.Rules.{rules_in, rules_view};
 ghost use Rattle.oxt_options.specs.Options.{transform_view};
 ghost use Rattle.oxt_options.specs.Facts.{Answers, alias_at, is_in, last_alias};
 ghost use Rattle.oxt_options.specs.Lists.{numbers_in};
-ghost use Rattle.oxt_tree.specs.Names.{name_bytes};
+ghost use Rattle.oxt_names.specs.Names.{name_bytes};
 ghost use Rattle.oxt_tree.specs.View.{node_doc};
 
 use crate::capture::{NameAt, first_capture};
@@ -25,14 +25,14 @@ use oxt_inline::inlined::inlined_expressions;
 use oxt_metadata::Metadata;
 use oxt_modules::kept::kept_nodes;
 use oxt_modules::nodes::NodeList;
+use oxt_names::ids::{NodeId, OutOfMemory};
+use oxt_names::name::Name;
 use oxt_options::TransformOptions;
 use oxt_options::lists::PlanLists;
 use oxt_options::plan::Plan;
 use oxt_scoping::scoping::Scoping;
-use oxt_tree::ids::{NodeId, OutOfMemory};
-use oxt_tree::name::Name;
-use oxt_tree::place::place_of;
 use oxt_tree::tree::{Node, Program};
+use oxt_valid::place_of::place_of;
 use std::alloc::Global;
 
 /// What the passes ask of the nodes of a program, whose table of scopes and symbols is `scoping`.

@@ -10,10 +10,10 @@ use crate::sight::Sight;
 use crate::tell::tell_of_node;
 use oxt_grammar::category::Category;
 use oxt_grammar::holds::Holds;
+use oxt_names::diagnostic::{DiagnosticKind, OxcDiagnostic};
+use oxt_names::ids::OutOfMemory;
 use oxt_options::TransformOptions;
 use oxt_options::plan::Plan;
-use oxt_tree::diagnostic::{DiagnosticKind, OxcDiagnostic};
-use oxt_tree::ids::OutOfMemory;
 use oxt_tree::tree::Node;
 use std::alloc::Global;
 

@@ -5,8 +5,8 @@ ghost use Rattle.oxt_check.specs.Refusals.{difference_in, kind_text, line_of, sp
 ghost use Rattle.oxt_check.specs.declared.fault.Fault.TheVariants.{OutOfMemory as NoMemory};
 
 pub use oxt_faults::misplaced::MisplacedKind;
-use oxt_tree::ids::{OutOfMemory, Span};
-use oxt_tree::name::Name;
+use oxt_names::ids::{OutOfMemory, Span};
+use oxt_names::name::Name;
 use std::alloc::{AllocError, Global};
 use thiserror::Error;
 

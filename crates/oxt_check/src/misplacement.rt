@@ -12,8 +12,8 @@ use oxt_enum_checks::late_base::first_late_base;
 use oxt_enum_checks::misnamed::first_misnamed;
 use oxt_faults::misplaced::{Misplaced, MisplacedKind, first_misplaced};
 use oxt_fields::rules::FieldRules;
+use oxt_names::ids::{NodeId, OutOfMemory};
 use oxt_scoping::scoping::Scoping;
-use oxt_tree::ids::{NodeId, OutOfMemory};
 use oxt_tree::tree::Node;
 use std::alloc::Global;
 

@@ -1,10 +1,10 @@
 //! Diagnostics that have a place, by what they tell of it.
 ghost use Rattle.std.specs.Prelude.{◌≡◌};
 ghost use Rattle.oxt_check.specs.Diagnostics.{found_at};
-ghost use Rattle.oxt_tree.specs.declared.diagnostic.DiagnosticKind.TheVariants as diagnostic;
+ghost use Rattle.oxt_names.specs.declared.diagnostic.DiagnosticKind.TheVariants as diagnostic;
 
-use oxt_tree::diagnostic::{DiagnosticKind, OxcDiagnostic};
-use oxt_tree::ids::Span;
+use oxt_names::diagnostic::{DiagnosticKind, OxcDiagnostic};
+use oxt_names::ids::Span;
 
 /// That an `import a = require("m")` stands there, though the output is an ECMAScript module.
 pub fn import_equals_cannot_be_used_in_esm(span: Span) -> OxcDiagnostic

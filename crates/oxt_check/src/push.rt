@@ -7,7 +7,7 @@ ghost use Rattle.oxt_tree.specs.View.{docs_in, node_doc, part_doc};
 use crate::wrapped::{held_by, is_wrapped_target};
 use oxt_declares::dropped::{is_dropped, keeps_decorators};
 use oxt_grammar::holds::{Holds, Row};
-use oxt_tree::ids::{NodeId, OutOfMemory};
+use oxt_names::ids::{NodeId, OutOfMemory};
 use oxt_tree::tree::{Node, Part};
 
 /// Appends the wrappers in the node, which stands where a field holds `holds`: itself before those in its fields.

@@ -8,7 +8,7 @@ use oxt_grammar::kind::Kind;
 use oxt_tree::tree::Node;
 
 /// Where a node stands, as far as diagnostics of namespaces ask.
-#[derive(Clone, Copy, PartialEq, Eq)]
+#[derive(Clone, Copy)]
 pub enum Seat {
     /// A statement of the program.
     Top,

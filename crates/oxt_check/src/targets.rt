@@ -7,7 +7,7 @@ use crate::push::push_from_node;
 use indexmap::IndexSet;
 use oxt_grammar::category::Category;
 use oxt_grammar::holds::Holds;
-use oxt_tree::ids::{NodeId, OutOfMemory};
+use oxt_names::ids::{NodeId, OutOfMemory};
 use oxt_tree::tree::Node;
 use std::alloc::Global;
 use std::marker::Model;

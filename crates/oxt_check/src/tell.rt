@@ -15,8 +15,8 @@ use crate::sight::{Sight, is_changing, is_nested_module};
 use crate::wrapped::{held_by, is_wrapped_target};
 use oxt_declares::dropped::is_dropped;
 use oxt_grammar::holds::{Holds, Row};
-use oxt_tree::diagnostic::{DiagnosticKind, OxcDiagnostic};
-use oxt_tree::ids::OutOfMemory;
+use oxt_names::diagnostic::{DiagnosticKind, OxcDiagnostic};
+use oxt_names::ids::OutOfMemory;
 use oxt_tree::tree::{Node, Part};
 
 /// Appends what is told of the node, which stands in that seat and where a field holds `holds`, and then of those in it.

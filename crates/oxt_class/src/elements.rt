@@ -4,7 +4,7 @@ use oxt_ctx::parts::{child_mut, list_mut};
 use oxt_fields::class::{get_super_call_position, statements_of};
 use oxt_grammar::field::Field;
 use oxt_grammar::kind::Kind;
-use oxt_tree::ids::OutOfMemory;
+use oxt_names::ids::OutOfMemory;
 use oxt_tree::tree::{Node, Part};
 use std::mem;
 

@@ -13,7 +13,7 @@ use oxt_ctx::nodes::{make, sequence};
 use oxt_fields::class::is_derived;
 use oxt_fields::fate::hoists_private;
 use oxt_grammar::kind::Kind;
-use oxt_tree::ids::{NodeId, NodeIds, OutOfMemory};
+use oxt_names::ids::{NodeId, NodeIds, OutOfMemory};
 use oxt_tree::tree::{Node, Part};
 use std::alloc::Global;
 use std::vec;

@@ -10,7 +10,7 @@ use oxt_ctx::nodes::{computed, member, private_member, sequence, this_expression
 use oxt_ctx::parts::{child_mut, put_field};
 use oxt_grammar::field::Field;
 use oxt_grammar::kind::Kind;
-use oxt_tree::ids::{NodeIds, OutOfMemory};
+use oxt_names::ids::{NodeIds, OutOfMemory};
 use oxt_tree::tree::{Node, Part};
 use std::alloc::Global;
 use std::mem;

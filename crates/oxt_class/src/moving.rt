@@ -11,7 +11,7 @@ use oxt_ctx::parts::{child_mut, take_node};
 use oxt_fields::fate::{Fate, fate_of};
 use oxt_fields::rules::FieldRules;
 use oxt_grammar::field::Field;
-use oxt_tree::ids::{NodeId, OutOfMemory};
+use oxt_names::ids::{NodeId, OutOfMemory};
 use oxt_tree::tree::{Node, Part};
 use std::alloc::Global;
 use std::vec;

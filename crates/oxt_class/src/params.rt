@@ -10,8 +10,8 @@ use oxt_ctx::parts::put_field;
 use oxt_fields::class::{is_property, parameters_of};
 use oxt_grammar::field::Field;
 use oxt_names::flags::ReferenceFlags;
-use oxt_tree::ids::OutOfMemory;
-use oxt_tree::name::Name;
+use oxt_names::ids::OutOfMemory;
+use oxt_names::name::Name;
 use oxt_tree::tree::{Node, Part};
 use std::alloc::Global;
 

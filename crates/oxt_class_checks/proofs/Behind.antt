@@ -3,7 +3,7 @@ use denote.Ref.{Bor}
 use Rattle.std.proofs.Common.{◌≡◌, ◌∙◌, ap, sym, ℕ, ◌+◌, ◌<◌, ◌≤◌, List, length, get_or, drop, fold, map, Option}
 use Rattle.oxt_class_checks.specs.Moved.{capture_behind}
 use Rattle.oxt_faults.specs.Captured.{Capture}
-use Rattle.oxt_tree.proofs.Lists.{drop_at, drop_end}
+use Rattle.oxt_names.proofs.Lists.{drop_at, drop_end}
 use Rattle.oxt_tree.specs.Doc.{Doc}
 use Rattle.oxt_tree.specs.View.{node_doc}
 use Rattle.oxt_tree.specs.declared.tree.Node.{Node}

@@ -5,9 +5,9 @@ use Rattle.oxt_class_checks.specs.Refused.{refused_among, refused_each, refused_
 use Rattle.oxt_class_checks.specs.Storages.{has_reserved, is_any_reserved, own_private, own_storage, with_name, with_privates}
 use Rattle.oxt_fields.specs.Rules.{Rules}
 use Rattle.oxt_options.specs.Lists.{numbers_in}
-use Rattle.oxt_tree.proofs.Lists.{drop_at, drop_end}
+use Rattle.oxt_names.proofs.Lists.{drop_at, drop_end}
 use Rattle.oxt_tree.specs.View.{docs_in, part_doc}
-use Rattle.oxt_tree.specs.declared.ids.NodeId.{NodeId}
+use Rattle.oxt_names.specs.declared.ids.NodeId.{NodeId}
 use Rattle.oxt_tree.specs.declared.tree.Part.{Part}
 
 -- a number more

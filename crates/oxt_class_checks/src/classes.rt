@@ -12,8 +12,8 @@ use oxt_declares::dropped::{is_declared_field, is_dropped};
 use oxt_grammar::field::Field;
 use oxt_grammar::holds::Row;
 use oxt_grammar::kind::Kind;
+use oxt_names::ids::OutOfMemory;
 use oxt_tree::fields::place_of;
-use oxt_tree::ids::OutOfMemory;
 use oxt_tree::tree::{Node, Part};
 use std::alloc::Global;
 

@@ -17,14 +17,14 @@ use oxt_grammar::field::Field;
 use oxt_grammar::holds::Row;
 use oxt_grammar::kind::Kind;
 use oxt_modules::nodes::NodeList;
+use oxt_names::ids::{NodeId, OutOfMemory};
 use oxt_search::first::first_in;
 use oxt_search::search::{Inside, Search, Visit};
-use oxt_tree::ids::{NodeId, OutOfMemory};
 use oxt_tree::tree::Node;
 use std::alloc::Global;
 
 /// What is wrong with the place of an element of a class.
-#[derive(Clone, Copy, PartialEq, Eq)]
+#[derive(Clone, Copy)]
 pub enum ClassFault {
     /// It is the constructor of a derived class and takes on properties or fields, which stand behind the call of
     /// `super`; but it does not call `super` exactly once, in a statement of its body by itself.
@@ -39,7 +39,7 @@ pub enum ClassFault {
 }
 
 /// An element of a class that stands where it may not.
-#[derive(Clone, Copy, PartialEq, Eq)]
+#[derive(Clone, Copy)]
 pub struct MisplacedElement {
     /// What is wrong.
     pub fault: ClassFault,

@@ -14,9 +14,9 @@ use oxt_faults::earliest::{MovedName, earlier, of_word};
 use oxt_faults::level::first_level_word_in;
 use oxt_grammar::holds::Row;
 use oxt_grammar::kind::Kind;
+use oxt_names::ids::OutOfMemory;
 use oxt_search::first::first_in;
 use oxt_search::search::{Search, Visit};
-use oxt_tree::ids::OutOfMemory;
 use oxt_tree::tree::{Node, Part};
 use std::alloc::Global;
 

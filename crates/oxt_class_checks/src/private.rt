@@ -13,9 +13,9 @@ use oxt_faults::earliest::MovedName;
 use oxt_grammar::field::Field;
 use oxt_grammar::holds::Row;
 use oxt_grammar::kind::Kind;
+use oxt_names::ids::NodeId;
 use oxt_search::first::first_among;
 use oxt_search::search::{Inside, Search, Visit};
-use oxt_tree::ids::NodeId;
 use oxt_tree::tree::{Node, Part};
 
 /// The first use in a decorator with these parts of a private name that one of the elements of a class has, outside the bodies

@@ -8,7 +8,7 @@ ghost use Rattle.oxt_fields.specs.Rules.{rules_view};
 ghost use Rattle.oxt_options.specs.Lists.{numbers_in};
 ghost use Rattle.oxt_decorated.specs.Storage.{storage_text};
 ghost use Rattle.oxt_decorated.specs.Text.{is_letter, is_within_identifier};
-ghost use Rattle.oxt_tree.specs.Names.{name_bytes};
+ghost use Rattle.oxt_names.specs.Names.{name_bytes};
 ghost use Rattle.oxt_tree.specs.View.{docs_in, node_doc, part_doc};
 
 use crate::class::is_class;
@@ -21,9 +21,9 @@ use oxt_fields::rules::FieldRules;
 use oxt_grammar::field::Field;
 use oxt_grammar::kind::Kind;
 use oxt_modules::nodes::NodeList;
+use oxt_names::ids::{NodeId, OutOfMemory};
+use oxt_names::name::Name;
 use oxt_names::uid::UidNames;
-use oxt_tree::ids::{NodeId, OutOfMemory};
-use oxt_tree::name::Name;
 use oxt_tree::tree::{Node, Part};
 use std::alloc::Global;
 

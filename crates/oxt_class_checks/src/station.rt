@@ -13,7 +13,7 @@ use oxt_search::search::Inside;
 use oxt_tree::tree::Node;
 
 /// Where such a search is.
-#[derive(Clone, Copy, PartialEq, Eq)]
+#[derive(Clone, Copy)]
 pub enum Station {
     /// At the class.
     Class,

@@ -3,7 +3,7 @@ use Rattle.std.proofs.Common.{ℕ, ◌+◌, ◌<◌, ◌≤◌, ◌≡◌, refl,
 use Rattle.oxt_constant.specs.Evaluated.{Env, constant, each_seen, all_of, in_front, constant_views}
 use Rattle.oxt_names.specs.Constant.{Constant, constant_view}
 use Rattle.oxt_names.specs.declared.constant.ConstantValue.{ConstantValue}
-use Rattle.oxt_tree.proofs.Lists.{drop_at, drop_end}
+use Rattle.oxt_names.proofs.Lists.{drop_at, drop_end}
 use Rattle.oxt_tree.specs.View.{docs_in, part_doc}
 use Rattle.oxt_tree.specs.declared.tree.Part.{Part}
 

@@ -1,9 +1,10 @@
 -- An operator between numbers, and between others.
 use Rattle.std.proofs.Common.{◌≡◌, refl, ap, ℤ, List, Option, None, Some, option_map}
 use Rattle.oxt_constant.specs.Operands.{numbers_in}
-use Rattle.oxt_names.specs.Constant.{Constant, binary_constant, integer, string, text_binary}
-use Rattle.oxt_names.specs.Integer.{number_binary}
-use Rattle.oxt_names.specs.declared.operator.BinaryOperator.{BinaryOperator}
+use Rattle.oxt_constant.specs.Operations.{binary_constant, text_binary}
+use Rattle.oxt_names.specs.Constant.{Constant, integer, string}
+use Rattle.oxt_constant.specs.Integer.{number_binary}
+use Rattle.oxt_constant.specs.declared.operator.BinaryOperator.{BinaryOperator}
 
 abbrev of_pair : BinaryOperator → Option (ℤ × ℤ) → Option Constant
 of_pair o None = None

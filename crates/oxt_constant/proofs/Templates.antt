@@ -4,7 +4,7 @@ use Rattle.std.specs.Option.{option_and_then}
 use Rattle.oxt_constant.specs.Evaluated.{constant_views, first_spelling, template_text}
 use Rattle.oxt_names.specs.Constant.{constant_view, spelling}
 use Rattle.oxt_names.specs.declared.constant.ConstantValue.{ConstantValue}
-use Rattle.oxt_tree.proofs.Lists.{drop_at, drop_end}
+use Rattle.oxt_names.proofs.Lists.{drop_at, drop_end}
 use Rattle.oxt_tree.specs.Fields.{field_of, text_in}
 use Rattle.oxt_tree.specs.View.{docs_in, part_doc}
 use Rattle.oxt_tree.specs.declared.tree.Part.{Part}

@@ -1,7 +1,7 @@
 -- The parts of which one is a text by its form.
 use Rattle.std.proofs.Common.{◌≡◌, ap, ℕ, ◌+◌, ◌<◌, ◌≤◌, List, length, drop, get_or, false, ◌||◌}
 use Rattle.oxt_constant.specs.Reversed.{is_text_form, some_text_form}
-use Rattle.oxt_tree.proofs.Lists.{drop_at, drop_end}
+use Rattle.oxt_names.proofs.Lists.{drop_at, drop_end}
 use Rattle.oxt_tree.specs.View.{docs_in, part_doc}
 use Rattle.oxt_tree.specs.declared.tree.Part.{Part}
 

@@ -5,9 +5,10 @@ use Rattle.std.specs.Str.{bytes_eq}
 use Rattle.oxt_constant.specs.Forms.{form_of}
 use Rattle.oxt_constant.specs.declared.form.Form.{Form}
 use Rattle.oxt_constant.specs.declared.form.Form.TheVariants as form
-use Rattle.oxt_names.specs.Constant.{Constant, constant_view, integer, string, spelling, unary_constant, binary_constant}
-use Rattle.oxt_names.specs.Integer.{signed}
-use Rattle.oxt_names.specs.Operators.{unary_written, binary_written}
+use Rattle.oxt_constant.specs.Operations.{unary_constant, binary_constant}
+use Rattle.oxt_names.specs.Constant.{Constant, constant_view, integer, string, spelling}
+use Rattle.oxt_constant.specs.Integer.{signed}
+use Rattle.oxt_constant.specs.Operators.{unary_written, binary_written}
 use Rattle.oxt_grammar.specs.Field.{Field}
 use Rattle.oxt_grammar.specs.Places.{same_kind}
 use Rattle.oxt_grammar.specs.Rows.{row_of}

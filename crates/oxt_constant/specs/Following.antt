@@ -4,7 +4,7 @@ use Rattle.oxt_constant.specs.Evaluated.{Env, constant}
 use Rattle.oxt_constant.specs.declared.member.Before.{Before}
 use Rattle.oxt_constant.specs.declared.member.Before.TheVariants as before
 use Rattle.oxt_names.specs.Constant.{Constant, constant_view, integer, string}
-use Rattle.oxt_names.specs.Integer.{kept, largest}
+use Rattle.oxt_constant.specs.Integer.{kept, largest}
 use Rattle.oxt_tree.specs.Doc.{Doc}
 use Rattle.oxt_tree.specs.Fields.{is_nil}
 

@@ -1,6 +1,9 @@
 pub mod Evaluated
 pub mod Following
 pub mod Forms
+pub mod Integer
 pub mod Metered
 pub mod Operands
+pub mod Operations
+pub mod Operators
 pub mod Reversed

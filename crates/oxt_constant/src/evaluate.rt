@@ -15,8 +15,8 @@ use crate::operand::{Operand, settled, shared};
 use crate::parts::{binary, template, unary};
 use oxt_grammar::field::Field;
 use oxt_names::constant::ConstantValue;
+use oxt_names::ids::OutOfMemory;
 use oxt_tree::fields::place_of;
-use oxt_tree::ids::OutOfMemory;
 use oxt_tree::tree::{Node, Part};
 use std::alloc::Global;
 

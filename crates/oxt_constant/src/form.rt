@@ -5,7 +5,7 @@ ghost use Rattle.oxt_constant.specs.Forms.{form_of};
 use oxt_grammar::kind::Kind;
 
 /// How the constant of an expression is found.
-#[derive(Clone, Copy, PartialEq, Eq)]
+#[derive(Clone, Copy)]
 pub enum Form {
     /// It is the number.
     Number,

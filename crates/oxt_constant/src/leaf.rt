@@ -7,13 +7,13 @@ ghost use Rattle.oxt_tree.specs.Fields.{field_of, named, text_in};
 ghost use Rattle.oxt_tree.specs.View.{docs_in, node_doc, part_doc};
 ghost use Rattle.oxt_grammar.specs.Keys.{key_of};
 
+use crate::integer::signed;
 use crate::meanings::Meanings;
 use oxt_grammar::field::Field;
 use oxt_grammar::kind::Kind;
 use oxt_names::constant::ConstantValue;
-use oxt_names::integer::signed;
-use oxt_tree::ids::OutOfMemory;
-use oxt_tree::name::Name;
+use oxt_names::ids::OutOfMemory;
+use oxt_names::name::Name;
 use oxt_tree::tree::{Node, Part};
 use std::alloc::Global;
 

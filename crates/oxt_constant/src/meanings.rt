@@ -4,7 +4,7 @@ ghost use Rattle.oxt_constant.specs.Evaluated.{Env};
 ghost use Rattle.oxt_names.specs.Constant.{constant_view};
 
 use oxt_names::constant::ConstantValue;
-use oxt_tree::ids::NodeId;
+use oxt_names::ids::NodeId;
 
 /// The constants that names have where an initializer stands: those of the members that stand
 /// before it.

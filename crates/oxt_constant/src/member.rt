@@ -6,13 +6,13 @@ ghost use Rattle.oxt_tree.specs.Fields.{named};
 ghost use Rattle.oxt_tree.specs.View.{docs_in};
 
 use crate::evaluate::constant_of;
+use crate::integer::{LARGEST, apply_binary};
 use crate::meanings::Meanings;
 use crate::meter::TextMeter;
+use crate::operator::BinaryOperator;
 use oxt_grammar::field::Field;
 use oxt_names::constant::ConstantValue;
-use oxt_names::integer::{LARGEST, apply_binary};
-use oxt_names::operator::BinaryOperator;
-use oxt_tree::ids::OutOfMemory;
+use oxt_names::ids::OutOfMemory;
 use oxt_tree::tree::{Node, Part};
 use std::alloc::Global;
 

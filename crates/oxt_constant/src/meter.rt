@@ -2,14 +2,14 @@
 ghost use Rattle.std.specs.Prelude.{◌≡◌, ◌+◌, ◌<◌, ◌≤◌, OnErr, OnOk};
 ghost use Rattle.oxt_constant.specs.Metered.{most_text};
 
-use oxt_tree::ids::OutOfMemory;
+use oxt_names::ids::OutOfMemory;
 
 /// How many bytes the texts of the constants of a tree may hold together, and how many may be written to make them: as
 /// many as an input may have.
 pub const MOST_TEXT: u64 = 16_777_216;
 
 /// A count of bytes of text.
-#[derive(Drop, PartialEq, Eq)]
+#[derive(Drop)]
 pub struct TextMeter {
     /// How many there were so far.
     pub bytes: u64,

@@ -2,14 +2,15 @@
 //! copied at each of them.
 ghost use Rattle.std.specs.Prelude.{◌≡◌, ◌++◌, IfOk, OnOk, option_map, string_bytes};
 ghost use Rattle.oxt_constant.specs.Operands.{numbers_in, operand_view};
-ghost use Rattle.oxt_names.specs.Constant.{binary_constant, constant_view, integer, joined, spelling, text_binary, unary_constant};
+ghost use Rattle.oxt_constant.specs.Operations.{binary_constant, joined, text_binary, unary_constant};
+ghost use Rattle.oxt_names.specs.Constant.{constant_view, integer, spelling};
 
+use crate::integer::apply_binary;
 use crate::meter::TextMeter;
+use crate::operator::{BinaryOperator, UnaryOperator};
 use oxt_names::constant::ConstantValue;
-use oxt_names::integer::apply_binary;
-use oxt_names::operator::{BinaryOperator, UnaryOperator};
-use oxt_tree::ids::OutOfMemory;
-use oxt_tree::name::Name;
+use oxt_names::ids::OutOfMemory;
+use oxt_names::name::Name;
 use std::alloc::Global;
 
 /// The constant of an expression.

@@ -7,10 +7,10 @@ ghost use Rattle.oxt_tree.specs.View.{docs_in, part_doc};
 
 use crate::meter::TextMeter;
 use crate::operand::{Operand, apply_before, apply_between, push_constant, push_text};
+use crate::operator::{BinaryOperator, UnaryOperator};
 use oxt_grammar::field::Field;
 use oxt_names::constant::ConstantValue;
-use oxt_names::operator::{BinaryOperator, UnaryOperator};
-use oxt_tree::ids::OutOfMemory;
+use oxt_names::ids::OutOfMemory;
 use oxt_tree::tree::{Node, Part};
 use std::alloc::Global;
 

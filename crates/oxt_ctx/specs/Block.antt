@@ -5,7 +5,7 @@ use Rattle.oxt_names.specs.declared.flags.ScopeFlags.{ScopeFlags}
 use Rattle.oxt_names.specs.declared.ids.ScopeId.{ScopeId}
 use Rattle.oxt_scoping.specs.Scoped.{at_node}
 use Rattle.oxt_tree.specs.Doc.{Doc, list, Docs, no_docs, doc}
-use Rattle.oxt_tree.specs.declared.ids.NodeId.{NodeId}
+use Rattle.oxt_names.specs.declared.ids.NodeId.{NodeId}
 use Rattle.oxt_ctx.specs.Context.{Context, current_scope}
 use Rattle.oxt_ctx.specs.Functions.{with_function}
 use Rattle.oxt_ctx.specs.Nodes.{made}

@@ -1,14 +1,14 @@
 -- The context of a walk as contracts see it.
 use Rattle.std.specs.Prelude.{ℕ, List, [], ◌∷◌, length, ◌<◌, Option, None, IfSome, unwrap_or}
 use Rattle.std.specs.Option.{option_or}
-use Rattle.oxt_tree.specs.declared.diagnostic.OxcDiagnostic.{OxcDiagnostic}
+use Rattle.oxt_names.specs.declared.diagnostic.OxcDiagnostic.{OxcDiagnostic}
 use Rattle.oxt_options.specs.declared.state.TransformState.{TransformState}
 use Rattle.oxt_options.specs.Facts.{Facts}
 use Rattle.oxt_scoping.specs.Scoped.{Each, Scoped}
 use Rattle.oxt_stores.specs.declared.declarations.VarDeclarationsStore.{VarDeclarationsStore}
 use Rattle.oxt_stores.specs.declared.injector.StatementInjectorStore.{StatementInjectorStore}
 use Rattle.oxt_names.specs.declared.ids.ScopeId.{ScopeId}
-use Rattle.oxt_tree.specs.declared.ids.NodeIds.{NodeIds}
+use Rattle.oxt_names.specs.declared.ids.NodeIds.{NodeIds}
 use Rattle.oxt_ctx.specs.declared.ancestor.AncestorRecord.{AncestorRecord}
 
 -- The table of names, the next number, the statements that wait to stand beside others, the declarators of the lists that are open, the plan, what is known of the run,

@@ -2,7 +2,7 @@
 use Rattle.std.specs.Prelude.{ℕ, ◌+◌, List, [], ◌∷◌, ◌++◌, length, true, Option}
 use Rattle.oxt_grammar.specs.declared.kind.Kind.TheVariants as kind
 use Rattle.oxt_tree.specs.Doc.{Doc, text, node, no_docs, doc}
-use Rattle.oxt_tree.specs.declared.ids.NodeIds.{NodeIds}
+use Rattle.oxt_names.specs.declared.ids.NodeIds.{NodeIds}
 use Rattle.oxt_names.specs.declared.flags.ReferenceFlags.{ReferenceFlags}
 use Rattle.oxt_names.specs.declared.flags.SymbolFlags.{SymbolFlags}
 use Rattle.oxt_names.specs.declared.ids.ScopeId.{ScopeId}

@@ -1,9 +1,8 @@
 //! The nodes around the one that is being visited.
 
 use oxt_grammar::kind::Kind;
-use oxt_names::ids::ScopeId;
-use oxt_tree::ids::NodeId;
-use oxt_tree::name::Name;
+use oxt_names::ids::{NodeId, ScopeId};
+use oxt_names::name::Name;
 
 /// What is known of a node around the one that is being visited.
 #[derive(Drop)]

@@ -8,8 +8,7 @@ use crate::nodes::make;
 use bitflags::Flags;
 use oxt_grammar::kind::Kind;
 use oxt_names::flags::ScopeFlags;
-use oxt_names::ids::ScopeId;
-use oxt_tree::ids::{NodeId, OutOfMemory};
+use oxt_names::ids::{NodeId, OutOfMemory, ScopeId};
 use oxt_tree::tree::{Node, Part};
 use std::vec;
 

@@ -2,14 +2,14 @@
 ghost use Rattle.std.specs.Prelude.{◌≡◌, ◌<◌, IfOk, List, OnErr, OnOk, Some, length, ℕ};
 ghost use Rattle.oxt_names.specs.declared.ids.SymbolId.{SymbolId};
 ghost use Rattle.oxt_stores.specs.Frame.{binding};
-ghost use Rattle.oxt_tree.specs.Names.{name_bytes};
+ghost use Rattle.oxt_names.specs.Names.{name_bytes};
 ghost use Rattle.oxt_tree.specs.View.{node_doc};
 ghost use Rattle.oxt_ctx.specs.Made.{reference, with_ids, with_use};
 
 use crate::context::TraverseCtx;
 use oxt_names::flags::ReferenceFlags;
+use oxt_names::ids::OutOfMemory;
 use oxt_stores::bound::BoundIdentifier;
-use oxt_tree::ids::OutOfMemory;
 use oxt_tree::tree::Node;
 
 /// The nodes of a name that is bound. Where memory runs out the context is as before.

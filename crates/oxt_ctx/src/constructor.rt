@@ -1,7 +1,7 @@
 //! The constructor that a class gets which has none.
 ghost use Rattle.std.specs.Prelude.{◌≡◌, ◌+◌, ◌<◌, ◌∷◌, IfOk, OnOk, codes, false, length, true};
 ghost use Rattle.oxt_stores.specs.Insertion.{docs};
-ghost use Rattle.oxt_tree.specs.Names.{name_bytes};
+ghost use Rattle.oxt_names.specs.Names.{name_bytes};
 ghost use Rattle.oxt_tree.specs.View.{node_doc, part_doc};
 ghost use Rattle.oxt_ctx.specs.Constructor.{constructed, constructor_method, constructor_flags, function_with, made_constructor, passing_function, rest_parameter, super_call, with_passing, with_super_call};
 ghost use Rattle.oxt_ctx.specs.Made.{made_in, with_ids};
@@ -14,10 +14,9 @@ use bitflags::Flags;
 use oxt_grammar::kind::Kind;
 use oxt_grammar::word::Word;
 use oxt_names::flags::{ScopeFlags, SymbolFlags};
-use oxt_names::ids::ScopeId;
+use oxt_names::ids::{NodeId, NodeIds, OutOfMemory, ScopeId};
+use oxt_names::name::Name;
 use oxt_stores::bound::BoundIdentifier;
-use oxt_tree::ids::{NodeId, NodeIds, OutOfMemory};
-use oxt_tree::name::Name;
 use oxt_tree::tree::{Node, Part};
 use std::alloc::Global;
 use std::vec;

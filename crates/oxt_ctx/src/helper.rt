@@ -9,8 +9,8 @@ ghost use Rattle.oxt_tree.specs.View.{docs_in, node_doc};
 use crate::context::TraverseCtx;
 use crate::nodes::{call, member, property_name};
 use oxt_names::flags::ReferenceFlags;
-use oxt_tree::ids::OutOfMemory;
-use oxt_tree::name::Name;
+use oxt_names::ids::OutOfMemory;
+use oxt_names::name::Name;
 use oxt_tree::tree::{Node, Part};
 use std::alloc::Global;
 

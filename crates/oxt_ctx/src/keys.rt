@@ -1,7 +1,7 @@
 //! The keys of class elements, and the variables that hold them.
 ghost use Rattle.std.specs.Prelude.{◌≡◌, ◌+◌, ◌<◌, IfOk, OnErr, OnOk, length};
 ghost use Rattle.oxt_stores.specs.Frame.{frames};
-ghost use Rattle.oxt_tree.specs.Names.{name_bytes};
+ghost use Rattle.oxt_names.specs.Names.{name_bytes};
 ghost use Rattle.oxt_tree.specs.View.{node_doc};
 ghost use Rattle.oxt_ctx.specs.Keys.{copied_key, first_use, is_literal, is_steady, needs_variable, second_use, with_let_declared, with_var_where};
 ghost use Rattle.oxt_ctx.specs.Made.{after, but_names_of, made_in, reference};
@@ -16,8 +16,8 @@ use crate::text::get_var_name_from_node;
 use crate::uid::create_uid_var_based_on_node;
 use oxt_grammar::kind::Kind;
 use oxt_names::flags::{ReferenceFlags, SymbolFlags};
+use oxt_names::ids::{OutOfMemory, Span};
 use oxt_stores::bound::BoundIdentifier;
-use oxt_tree::ids::{OutOfMemory, Span};
 use oxt_tree::tree::Node;
 
 /// Whether the key is to be kept in a variable where it is needed later: it is neither a literal nor a

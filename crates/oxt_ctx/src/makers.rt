@@ -1,17 +1,16 @@
 //! Names that are entered in the table, and the nodes that are names.
 ghost use Rattle.std.specs.Prelude.{◌≡◌, ◌<◌, ◌+◌, IfOk, IfSome, OnErr, OnOk, length};
 ghost use Rattle.oxt_tree.specs.Doc.{doc, no_docs, node, text};
-ghost use Rattle.oxt_tree.specs.Names.{name_bytes};
+ghost use Rattle.oxt_names.specs.Names.{name_bytes};
 ghost use Rattle.oxt_tree.specs.View.{node_doc};
 ghost use Rattle.oxt_ctx.specs.Made.{after, bound_anew, reference, used_anew};
 
 use oxt_grammar::kind::Kind;
 use oxt_names::flags::{ReferenceFlags, SymbolFlags};
-use oxt_names::ids::{ScopeId, SymbolId};
+use oxt_names::ids::{NodeId, NodeIds, OutOfMemory, ScopeId, Span, SymbolId};
+use oxt_names::name::Name;
 use oxt_scoping::scoping::Scoping;
 use oxt_stores::bound::BoundIdentifier;
-use oxt_tree::ids::{NodeId, NodeIds, OutOfMemory, Span};
-use oxt_tree::name::Name;
 use oxt_tree::tree::{Node, Part};
 use std::alloc::Global;
 

@@ -1,7 +1,7 @@
 //! Names that may be bound.
 ghost use Rattle.std.specs.Prelude.{◌≡◌, ◌<◌, IfOk, IfSome, OnErr, OnOk, codes, length};
 ghost use Rattle.oxt_tree.specs.Fields.{text_in};
-ghost use Rattle.oxt_tree.specs.Names.{name_bytes};
+ghost use Rattle.oxt_names.specs.Names.{name_bytes};
 ghost use Rattle.oxt_tree.specs.View.{field_in, node_doc};
 ghost use Rattle.oxt_ctx.specs.Made.{reference, with_use};
 ghost use Rattle.oxt_ctx.specs.Meant.{or_empty, symbol_meant};
@@ -9,10 +9,9 @@ ghost use Rattle.oxt_ctx.specs.Meant.{or_empty, symbol_meant};
 use crate::context::TraverseCtx;
 use oxt_grammar::field::Field;
 use oxt_names::flags::ReferenceFlags;
-use oxt_names::ids::SymbolId;
+use oxt_names::ids::{NodeId, OutOfMemory, SymbolId};
+use oxt_names::name::Name;
 use oxt_scoping::scoping::Scoping;
-use oxt_tree::ids::{NodeId, OutOfMemory};
-use oxt_tree::name::Name;
 use oxt_tree::tree::{Node, Part};
 use std::alloc::Global;
 

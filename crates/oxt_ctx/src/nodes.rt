@@ -5,13 +5,13 @@ ghost use Rattle.oxt_ctx.specs.Made.{reference};
 ghost use Rattle.oxt_stores.specs.Frame.{binding, declarator};
 ghost use Rattle.oxt_grammar.specs.Words.{text_of};
 ghost use Rattle.oxt_grammar.specs.declared.kind.Kind.TheVariants as kind;
-ghost use Rattle.oxt_tree.specs.Names.{name_bytes};
+ghost use Rattle.oxt_names.specs.Names.{name_bytes};
 ghost use Rattle.oxt_tree.specs.View.{docs_in, node_doc, part_doc};
 
 use oxt_grammar::kind::Kind;
 use oxt_grammar::word::Word;
-use oxt_tree::ids::{NodeIds, OutOfMemory, Span};
-use oxt_tree::name::Name;
+use oxt_names::ids::{NodeIds, OutOfMemory, Span};
+use oxt_names::name::Name;
 use oxt_tree::tree::{Node, Part};
 use std::alloc::Global;
 use std::vec;

@@ -2,7 +2,7 @@
 ghost use Rattle.std.specs.Prelude.{◌≡◌, ◌++◌, IfOk, OnOk, codes, option_map, string_bytes};
 ghost use Rattle.std.specs.List.{list_all};
 ghost use Rattle.oxt_tree.specs.Fields.{field_of, named, text_in};
-ghost use Rattle.oxt_tree.specs.Names.{name_bytes};
+ghost use Rattle.oxt_names.specs.Names.{name_bytes};
 ghost use Rattle.oxt_tree.specs.View.{docs_in, node_doc, part_doc};
 ghost use Rattle.oxt_names.specs.Made.{is_digit};
 ghost use Rattle.oxt_ctx.specs.Text.{first_text, if_identifier, is_identifier, is_letter, is_read_inside, is_within_identifier, member_text, name_text, or_no_name, own_text};
@@ -10,8 +10,8 @@ ghost use Rattle.oxt_grammar.specs.Keys.{key_of};
 
 use oxt_grammar::field::Field;
 use oxt_grammar::kind::Kind;
-use oxt_tree::ids::OutOfMemory;
-use oxt_tree::name::Name;
+use oxt_names::ids::OutOfMemory;
+use oxt_names::name::Name;
 use oxt_tree::tree::{Node, Part};
 use std::alloc::Global;
 

@@ -1,7 +1,7 @@
 //! Variables that are made, and declared at the top of the innermost list of statements.
 ghost use Rattle.std.specs.Prelude.{◌≡◌, ◌+◌, ◌<◌, IfOk, None, OnErr, OnOk, Some, false, length};
 ghost use Rattle.oxt_stores.specs.Frame.{frames};
-ghost use Rattle.oxt_tree.specs.Names.{name_bytes};
+ghost use Rattle.oxt_names.specs.Names.{name_bytes};
 ghost use Rattle.oxt_tree.specs.View.{node_doc};
 ghost use Rattle.oxt_names.specs.Made.{is_among};
 ghost use Rattle.oxt_ctx.specs.Context.{current_scope};
@@ -11,8 +11,8 @@ ghost use Rattle.oxt_ctx.specs.Text.{name_text};
 use crate::context::TraverseCtx;
 use crate::text::get_var_name_from_node;
 use oxt_names::flags::SymbolFlags;
+use oxt_names::ids::OutOfMemory;
 use oxt_stores::bound::BoundIdentifier;
-use oxt_tree::ids::OutOfMemory;
 use oxt_tree::tree::Node;
 
 /// Makes a name of the text, and declares it by `var` in the innermost list of statements. Its symbol

@@ -1,6 +1,6 @@
 -- What a list of statements declares, one after another.
 use Rattle.std.proofs.Common.{ℕ, ◌+◌, ◌<◌, ◌≤◌, ◌≡◌, sym, ap, ◌∙◌, List, ◌++◌, length, drop, get_or, Bool, append_assoc, append-nil}
-use Rattle.oxt_tree.proofs.Lists.{drop_at, drop_end}
+use Rattle.oxt_names.proofs.Lists.{drop_at, drop_end}
 use Rattle.oxt_tree.specs.View.{docs_in, part_doc}
 use Rattle.oxt_tree.specs.declared.tree.Part.{Part}
 use Rattle.oxt_declares.specs.Declarations.{Declared}

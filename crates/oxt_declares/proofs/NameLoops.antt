@@ -1,6 +1,6 @@
 -- Names of a list of nodes, a node at a time.
 use Rattle.std.proofs.Common.{ℕ, ◌+◌, ◌<◌, ◌≤◌, ◌≡◌, sym, ap, ◌∙◌, List, [], ◌∷◌, ◌++◌, length, map, drop, get_or, append_assoc, append-nil}
-use Rattle.oxt_tree.proofs.Lists.{drop_at, drop_end}
+use Rattle.oxt_names.proofs.Lists.{drop_at, drop_end}
 use Rattle.oxt_tree.specs.Bound.{Bound, bound_names}
 use Rattle.oxt_tree.specs.Fields.{field_of}
 use Rattle.oxt_tree.specs.View.{docs_in, part_doc}

@@ -7,7 +7,7 @@ use Rattle.oxt_grammar.specs.Field.{Field, row_view}
 use Rattle.oxt_grammar.specs.Rows.{row_of}
 use Rattle.oxt_grammar.specs.declared.holds.Row.{Row}
 use Rattle.oxt_grammar.specs.declared.kind.Kind.{Kind}
-use Rattle.oxt_tree.proofs.Lists.{drop_at, drop_end}
+use Rattle.oxt_names.proofs.Lists.{drop_at, drop_end}
 use Rattle.oxt_tree.proofs.Places.{doc_at, named_at}
 use Rattle.oxt_tree.specs.Doc.{Docs, no_docs, doc}
 use Rattle.oxt_tree.specs.Fields.{at_name}

@@ -8,7 +8,7 @@ ghost use Rattle.oxt_declares.specs.Bare.{bare_views};
 use oxt_grammar::field::Field;
 use oxt_grammar::holds::Row;
 use oxt_grammar::kind::Kind;
-use oxt_tree::ids::{NodeId, OutOfMemory};
+use oxt_names::ids::{NodeId, OutOfMemory};
 use oxt_tree::tree::{Node, Part};
 
 /// A bare name of a pattern.

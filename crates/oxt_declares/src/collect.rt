@@ -16,7 +16,7 @@ use crate::role::Role;
 use crate::role_of::role_of;
 use crate::types_alone::is_of_types;
 use oxt_grammar::field::Field;
-use oxt_tree::ids::OutOfMemory;
+use oxt_names::ids::OutOfMemory;
 use oxt_tree::tree::{Node, Part};
 use std::alloc::Global;
 

@@ -2,7 +2,7 @@
 ghost use Rattle.std.specs.Prelude.{◌≡◌};
 ghost use Rattle.oxt_declares.specs.Declarations.{is_type_alone, shows};
 
-use oxt_tree::ids::NodeId;
+use oxt_names::ids::NodeId;
 use oxt_tree::tree::Part;
 
 /// What a name is declared as.

@@ -9,7 +9,7 @@ ghost use Rattle.oxt_grammar.specs.Keys.{key_of};
 
 use crate::bare::{BareName, push_names};
 use oxt_grammar::field::Field;
-use oxt_tree::ids::OutOfMemory;
+use oxt_names::ids::OutOfMemory;
 use oxt_tree::tree::{Node, Part};
 
 /// What a field of the node in a field holds.

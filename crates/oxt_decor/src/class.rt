@@ -42,8 +42,8 @@ use oxt_ctx::uid::create_uid_var;
 use oxt_decorated::class::is_constructor;
 use oxt_grammar::field::Field;
 use oxt_names::flags::ReferenceFlags;
+use oxt_names::ids::{NodeId, OutOfMemory};
 use oxt_stores::bound::BoundIdentifier;
-use oxt_tree::ids::{NodeId, OutOfMemory};
 use oxt_tree::tree::{Node, Part};
 use std::vec;
 

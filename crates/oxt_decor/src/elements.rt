@@ -32,7 +32,7 @@ use oxt_ctx::context::TraverseCtx;
 use oxt_ctx::nodes::{null_literal, statement, void_zero};
 use oxt_grammar::field::Field;
 use oxt_names::flags::ReferenceFlags;
-use oxt_tree::ids::OutOfMemory;
+use oxt_names::ids::OutOfMemory;
 use oxt_tree::tree::{Node, Part};
 use std::vec;
 

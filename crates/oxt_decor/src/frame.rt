@@ -12,7 +12,7 @@ use oxt_decorated::private_in::holds_private_in;
 use oxt_decorated::statics::has_static_part;
 use oxt_grammar::kind::Kind;
 use oxt_names::flags::ReferenceFlags;
-use oxt_tree::ids::{NodeId, OutOfMemory};
+use oxt_names::ids::{NodeId, OutOfMemory};
 use oxt_tree::tree::{Node, Part};
 use std::alloc::Global;
 

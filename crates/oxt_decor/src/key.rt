@@ -11,8 +11,8 @@ use oxt_ctx::parts::{child_mut, put_field};
 use oxt_ctx::uid::create_uid_var_based_on_node;
 use oxt_grammar::field::Field;
 use oxt_grammar::kind::Kind;
-use oxt_tree::ids::OutOfMemory;
-use oxt_tree::name::Name;
+use oxt_names::ids::OutOfMemory;
+use oxt_names::name::Name;
 use oxt_tree::tree::{Node, Part};
 use std::alloc::Global;
 

@@ -25,7 +25,7 @@ use oxt_grammar::field::Field;
 use oxt_grammar::kind::Kind;
 use oxt_grammar::word::Word;
 use oxt_names::flags::ReferenceFlags;
-use oxt_tree::ids::{NodeId, OutOfMemory};
+use oxt_names::ids::{NodeId, OutOfMemory};
 use oxt_tree::tree::Node;
 
 /// The number of the statement that the class is or that exports it.

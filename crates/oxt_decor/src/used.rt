@@ -3,7 +3,7 @@ ghost use Rattle.std.specs.Prelude.{◌≡◌, IfOk};
 ghost use Rattle.oxt_decor.specs.Named.{names_used};
 ghost use Rattle.oxt_tree.specs.View.{node_doc};
 
-use oxt_tree::ids::OutOfMemory;
+use oxt_names::ids::OutOfMemory;
 use oxt_tree::tree::Node;
 use oxt_visit::visitor::VisitMut;
 use oxt_visit::walk::visit_mut;

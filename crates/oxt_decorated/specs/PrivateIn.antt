@@ -11,7 +11,7 @@ use Rattle.oxt_search.specs.declared.search.Inside.{Inside}
 use Rattle.oxt_search.specs.declared.search.Inside.TheVariants as inside
 use Rattle.oxt_tree.specs.Doc.{Doc, Docs}
 use Rattle.oxt_tree.specs.Fields.{docs_list, field_of, is_kind, is_set}
-use Rattle.oxt_tree.specs.declared.ids.NodeId.{NodeId}
+use Rattle.oxt_names.specs.declared.ids.NodeId.{NodeId}
 use Rattle.oxt_declares.specs.Dropped.{inside_dropped_by, is_dropped, is_dropped_by}
 
 -- the node, if it is `#x in o`

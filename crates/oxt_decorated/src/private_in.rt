@@ -9,9 +9,9 @@ use oxt_declares::dropped::{inside_dropped, is_dropped};
 use oxt_grammar::field::Field;
 use oxt_grammar::holds::Row;
 use oxt_grammar::kind::Kind;
+use oxt_names::ids::NodeId;
 use oxt_search::first::first_among;
 use oxt_search::search::{Inside, Search, Visit};
-use oxt_tree::ids::NodeId;
 use oxt_tree::tree::{Node, Part};
 
 /// Whether a decorator of the class, of one of its elements outside erased code, or of a parameter of such an element holds

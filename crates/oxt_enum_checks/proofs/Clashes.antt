@@ -12,8 +12,8 @@ use Rattle.oxt_enum_checks.specs.declared.sort.Sort.{Sort}
 use Rattle.oxt_enum_checks.specs.declared.sort.Sort.TheVariants as sort
 use Rattle.oxt_scoping.specs.Scoped.{Scoped}
 use Rattle.oxt_scoping.specs.declared.entry.Redeclaration.{Redeclaration}
-use Rattle.oxt_tree.proofs.Lists.{drop_at, drop_end}
-use Rattle.oxt_tree.specs.declared.ids.NodeId.{NodeId}
+use Rattle.oxt_names.proofs.Lists.{drop_at, drop_end}
+use Rattle.oxt_names.specs.declared.ids.NodeId.{NodeId}
 
 -- ---- the declarations that emit code
 

@@ -2,7 +2,7 @@
 use Rattle.std.proofs.Common.{◌≡◌, ◌∙◌, ap, sym, ℕ, ◌+◌, ◌<◌, ◌≤◌, List, length, get_or, drop, fold, Option}
 use Rattle.oxt_enum_checks.specs.Shadows.{Shadow, lesser, shadow_view, shadow_views}
 use Rattle.oxt_enum_checks.specs.declared.shadowed.ShadowedName.{ShadowedName}
-use Rattle.oxt_tree.proofs.Lists.{drop_at, drop_end}
+use Rattle.oxt_names.proofs.Lists.{drop_at, drop_end}
 
 -- one name more
 pub least_more : (o o' : Option Shadow) (ns : List ShadowedName) (i : ℕ) (n : ShadowedName) → i < length ns → n ≡ get_or ns i n → o' ≡ lesser o (shadow_view n) → fold lesser o (shadow_views (drop i ns)) ≡ fold lesser o' (shadow_views (drop (i + 1) ns))

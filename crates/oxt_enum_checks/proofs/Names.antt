@@ -2,7 +2,7 @@
 use Rattle.std.proofs.Common.{◌≡◌, ◌∙◌, ap, ℕ, List, map, Vec, Global, Result, Ok, Err, IfOk}
 use Rattle.oxt_enum_checks.specs.Places.{Placed, place_at}
 use Rattle.oxt_enum_checks.specs.declared.places.Place.{Place}
-use Rattle.oxt_tree.specs.declared.ids.NodeId.{NodeId}
+use Rattle.oxt_names.specs.declared.ids.NodeId.{NodeId}
 
 -- A table that has of each number what the list has is the list's.
 pub same_places : (es : List (ℕ × Place)) (p : Placed) → ((n : ℕ) → place_at es n ≡ p n) → place_at es ≡ p

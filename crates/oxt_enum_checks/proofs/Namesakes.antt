@@ -10,7 +10,7 @@ use Rattle.oxt_enum_checks.specs.Keys.{Key, is_noted, is_repeated_in, key_of, ke
 use Rattle.oxt_enum_checks.specs.Members.{Member, member_view, member_views}
 use Rattle.oxt_enum_checks.specs.Misnamed.{first_repeated, is_repeated}
 use Rattle.oxt_enum_checks.specs.declared.members.EnumMember.{EnumMember}
-use Rattle.oxt_tree.proofs.Lists.{drop_at, drop_end}
+use Rattle.oxt_names.proofs.Lists.{drop_at, drop_end}
 
 -- the symbol of an enum and the name of a member, as the program keeps them
 abbrev pub Name : Type 0

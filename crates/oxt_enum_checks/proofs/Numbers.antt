@@ -2,7 +2,7 @@
 use Rattle.std.proofs.Common.{◌≡◌, ℕ, Option, None, Some, option_map}
 use Rattle.oxt_enum_checks.specs.Misused.{number_of}
 use Rattle.oxt_scopes.specs.Stack.{number_at}
-use Rattle.oxt_tree.specs.declared.ids.NodeId.{NodeId}
+use Rattle.oxt_names.specs.declared.ids.NodeId.{NodeId}
 
 pub number_of_found : (found : Option NodeId) (n : Option ℕ) → option_map number_of found ≡ n → number_at found ≡ n
 number_of_found None n is = is

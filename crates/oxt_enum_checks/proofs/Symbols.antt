@@ -10,8 +10,8 @@ use Rattle.oxt_enum_checks.specs.declared.sought.Sought.{Sought}
 use Rattle.oxt_scoping.specs.Entries.{SymbolData}
 use Rattle.oxt_scoping.specs.declared.entry.Redeclaration.{Redeclaration}
 use Rattle.oxt_names.specs.declared.ids.SymbolId.{SymbolId}
-use Rattle.oxt_tree.proofs.Lists.{drop_end}
-use Rattle.oxt_tree.specs.declared.ids.NodeId.{NodeId}
+use Rattle.oxt_names.proofs.Lists.{drop_end}
+use Rattle.oxt_names.specs.declared.ids.NodeId.{NodeId}
 
 -- ---- names
 

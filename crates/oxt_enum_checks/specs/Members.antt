@@ -13,7 +13,7 @@ use Rattle.oxt_grammar.specs.Places.{same_kind}
 use Rattle.oxt_grammar.specs.declared.kind.Kind.{Kind}
 use Rattle.oxt_grammar.specs.declared.kind.Kind.TheVariants as kind
 use Rattle.oxt_tree.specs.Doc.{Doc}
-use Rattle.oxt_tree.specs.Names.{name_bytes}
+use Rattle.oxt_names.specs.Names.{name_bytes}
 use Rattle.oxt_declares.specs.Dropped.{inside_dropped_by, is_dropped_by}
 
 -- a member: its enum, its number and its name

@@ -13,7 +13,7 @@ use Rattle.oxt_search.specs.declared.search.Inside.TheVariants as inside
 use Rattle.oxt_grammar.specs.declared.kind.Kind.{Kind}
 use Rattle.oxt_grammar.specs.declared.kind.Kind.TheVariants as kind
 use Rattle.oxt_tree.specs.Doc.{Doc}
-use Rattle.oxt_tree.specs.declared.ids.NodeId.{NodeId}
+use Rattle.oxt_names.specs.declared.ids.NodeId.{NodeId}
 
 -- Declarations, parameters and specifiers of imports declare the names that stand in them directly or in
 -- their patterns. The name of a function or class expression has no declaration.

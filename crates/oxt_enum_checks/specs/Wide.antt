@@ -8,7 +8,7 @@ use Rattle.oxt_search.specs.First.{first_in}
 use Rattle.oxt_search.specs.Sought.{Sought}
 use Rattle.oxt_search.specs.declared.search.Inside.TheVariants as inside
 use Rattle.oxt_names.specs.Constant.{Constant, integer, string}
-use Rattle.oxt_names.specs.Integer.{largest}
+use Rattle.oxt_constant.specs.Integer.{largest}
 use Rattle.oxt_grammar.specs.Places.{same_kind}
 use Rattle.oxt_grammar.specs.declared.kind.Kind.{Kind}
 use Rattle.oxt_grammar.specs.declared.kind.Kind.TheVariants as kind

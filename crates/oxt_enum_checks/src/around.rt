@@ -6,8 +6,8 @@ ghost use Rattle.oxt_tree.specs.View.{doc_or_nil, docs_in};
 use oxt_grammar::field::Field;
 use oxt_grammar::kind::Kind;
 use oxt_names::ids::{ScopeId, SymbolId};
+use oxt_names::name::Name;
 use oxt_scoping::scoping::Scoping;
-use oxt_tree::name::Name;
 use oxt_tree::tree::{Node, Part};
 
 /// An enum around a node.

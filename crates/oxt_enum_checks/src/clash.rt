@@ -9,9 +9,9 @@ ghost use Rattle.oxt_tree.specs.View.{node_doc};
 use crate::places::{Place, Places};
 use crate::sort::{Sort, is_base, is_block, is_namespace, sort_of};
 use crate::sought::{Block, Sought, has_blocks, sought_blocks};
+use oxt_names::ids::{NodeId, OutOfMemory};
 use oxt_scoping::entry::Redeclaration;
 use oxt_scoping::scoping::Scoping;
-use oxt_tree::ids::{NodeId, OutOfMemory};
 use oxt_tree::tree::Node;
 use std::alloc::Global;
 

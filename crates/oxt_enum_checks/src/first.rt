@@ -5,8 +5,8 @@ ghost use Rattle.oxt_tree.specs.View.{node_doc};
 
 use crate::places::Places;
 use crate::sought::{Block, Sought, sought_blocks};
+use oxt_names::ids::{NodeId, OutOfMemory};
 use oxt_scoping::scoping::Scoping;
-use oxt_tree::ids::{NodeId, OutOfMemory};
 use oxt_tree::tree::Node;
 use std::alloc::Global;
 

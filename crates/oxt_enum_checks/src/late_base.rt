@@ -8,9 +8,9 @@ use crate::clash::{Emitted, all_emitted, declarations_by, lesser};
 use crate::places::Places;
 use crate::sort::{is_base, is_namespace};
 use crate::sought::{Block, Sought, has_blocks, sought_blocks};
+use oxt_names::ids::{NodeId, OutOfMemory};
 use oxt_scoping::entry::Redeclaration;
 use oxt_scoping::scoping::Scoping;
-use oxt_tree::ids::{NodeId, OutOfMemory};
 use oxt_tree::tree::Node;
 use std::alloc::Global;
 

@@ -7,8 +7,8 @@ ghost use Rattle.oxt_tree.specs.View.{node_doc};
 use crate::members::members_of;
 use crate::misused::first_misused;
 use crate::repeated::first_repeated;
+use oxt_names::ids::{NodeId, OutOfMemory};
 use oxt_scoping::scoping::Scoping;
-use oxt_tree::ids::{NodeId, OutOfMemory};
 use oxt_tree::tree::Node;
 use std::alloc::Global;
 

@@ -9,12 +9,11 @@ use oxt_declares::dropped::{inside_dropped, is_dropped};
 use oxt_grammar::holds::Row;
 use oxt_grammar::kind::Kind;
 use oxt_names::flags::{ReferenceFlags, SymbolFlags};
-use oxt_names::ids::SymbolId;
+use oxt_names::ids::{NodeId, SymbolId};
 use oxt_scoping::entry::Reference;
 use oxt_scoping::scoping::Scoping;
 use oxt_search::first::first_in;
 use oxt_search::search::{Inside, Search, Visit};
-use oxt_tree::ids::NodeId;
 use oxt_tree::tree::Node;
 
 /// The first bare name in the program, outside what is erased and outside types, that means a member of an enum

@@ -7,7 +7,7 @@ ghost use Rattle.oxt_scopes.specs.Stack.{number_at};
 
 use crate::members::EnumMember;
 use indexmap::IndexSet;
-use oxt_tree::ids::{NodeId, OutOfMemory};
+use oxt_names::ids::{NodeId, OutOfMemory};
 use std::alloc::Global;
 
 /// The first of the members that has the name of its enum, or that of an earlier one of the same enum.

@@ -15,12 +15,12 @@ use crate::shadowed::ShadowedName;
 use crate::uses::is_member_use;
 use oxt_declares::dropped::{is_declared_field, is_dropped};
 use oxt_grammar::holds::Row;
+use oxt_names::ids::{NodeId, OutOfMemory};
 use oxt_scopes::look::meaning;
 use oxt_scopes::owners::reading_of;
 use oxt_scopes::scope::{Scope, scope_of};
 use oxt_scopes::way::{Pass, Reading, Step, Way, step_of};
 use oxt_scoping::scoping::Scoping;
-use oxt_tree::ids::{NodeId, OutOfMemory};
 use oxt_tree::tree::{Node, Part};
 use std::alloc::Global;
 

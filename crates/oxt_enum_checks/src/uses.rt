@@ -7,9 +7,8 @@ use crate::around::EnumAround;
 use crate::misused::value_use;
 use bitflags::Flags;
 use oxt_names::flags::SymbolFlags;
-use oxt_names::ids::{ScopeId, SymbolId};
+use oxt_names::ids::{NodeId, ScopeId, SymbolId};
 use oxt_scoping::scoping::Scoping;
-use oxt_tree::ids::NodeId;
 
 /// Whether the node of that number is a bare name, used as a value, that means a member of the enum.
 pub fn is_member_use(scoping: &Scoping, around: EnumAround, node: NodeId) -> bool

@@ -5,21 +5,20 @@ ghost use Rattle.oxt_enum_checks.specs.declared.wide.WideMember.{WideMember};
 ghost use Rattle.oxt_tree.specs.View.{docs_in, node_doc, part_doc};
 
 use crate::misused::{has_members, is_member};
+use oxt_constant::integer::LARGEST;
 use oxt_declares::dropped::{inside_dropped, is_dropped};
 use oxt_grammar::field::Field;
 use oxt_grammar::holds::Row;
 use oxt_grammar::kind::Kind;
 use oxt_names::constant::ConstantValue;
-use oxt_names::ids::SymbolId;
-use oxt_names::integer::LARGEST;
+use oxt_names::ids::{NodeId, Span, SymbolId};
 use oxt_scoping::scoping::Scoping;
 use oxt_search::first::first_in;
 use oxt_search::search::{Inside, Search, Visit};
-use oxt_tree::ids::{NodeId, Span};
 use oxt_tree::tree::{Node, Part};
 
 /// A member whose constant would be larger than the largest.
-#[derive(Clone, Copy, PartialEq, Eq)]
+#[derive(Clone, Copy)]
 pub struct WideMember {
     /// The number of the node.
     pub node: NodeId,

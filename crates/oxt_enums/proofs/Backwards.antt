@@ -13,8 +13,8 @@ use Rattle.oxt_scopes.specs.OwnedViews.{owned_view, owned_views}
 use Rattle.oxt_scopes.specs.Owners.{Owned}
 use Rattle.oxt_scopes.specs.Stack.{number_at}
 use Rattle.oxt_scopes.specs.declared.owners.OwnedName.{OwnedName}
-use Rattle.oxt_tree.proofs.Lists.{drop_at, drop_end}
-use Rattle.oxt_tree.specs.declared.ids.NodeId.{NodeId}
+use Rattle.oxt_names.proofs.Lists.{drop_at, drop_end}
+use Rattle.oxt_names.specs.declared.ids.NodeId.{NodeId}
 
 pub at_put : {V : Type 0} (q k : ℕ) (v : V) (es new : List (ℕ × V)) → new ≡ insert_entry same_numbers es k v → at_number q new ≡ cond (q == k) (Some v) (at_number q es)
 at_put q k v es new is = ap (at_number q) is ∙ look_insert same_numbers (λ x. q == x) k v (λ x h. number_swap q k x h) (λ x h g. number_same q k x h g) es

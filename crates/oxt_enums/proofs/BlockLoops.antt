@@ -8,7 +8,7 @@ use Rattle.oxt_enums.specs.declared.blocks.EnumBlock.{EnumBlock}
 use Rattle.oxt_scopes.specs.Views.{opened_views}
 use Rattle.oxt_scopes.specs.declared.scopes.OpenedScope.{OpenedScope}
 use Rattle.oxt_scopes.specs.declared.standing.Standing.{Standing}
-use Rattle.oxt_tree.proofs.Lists.{drop_at, drop_end}
+use Rattle.oxt_names.proofs.Lists.{drop_at, drop_end}
 
 pub one_more : (old new : List EnumBlock) (b : EnumBlock) → new ≡ old ++ b ∷ [] → block_views new ≡ block_views old ++ block_view b ∷ []
 one_more old new b is = ap block_views is ∙ map-append block_view old (b ∷ [])

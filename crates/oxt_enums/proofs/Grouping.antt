@@ -13,7 +13,7 @@ use Rattle.oxt_enums.specs.Groups.{Entries, Enum, Puts, body_of, enum_in, enum_o
 use Rattle.oxt_enums.specs.Tables.{Name, at_name}
 use Rattle.oxt_enums.specs.declared.blocks.EnumBlock.{EnumBlock}
 use Rattle.oxt_enums.specs.declared.groups.Group.{Group}
-use Rattle.oxt_tree.specs.declared.ids.NodeId.{NodeId}
+use Rattle.oxt_names.specs.declared.ids.NodeId.{NodeId}
 
 pub one_more : (old new : List NodeId) (i : NodeId) → new ≡ old ++ i ∷ [] → map number_of new ≡ map number_of old ++ i.0 ∷ []
 one_more old new i is = ap (map number_of) is ∙ map-append number_of old (i ∷ [])

@@ -4,7 +4,7 @@ use Rattle.std.specs.Prelude.{find, option_map}
 use Rattle.oxt_enums.specs.Constants.{Told, told_view, told_views}
 use Rattle.oxt_enums.specs.Enums.{is_too_large, place_of, span_view}
 use Rattle.oxt_enums.specs.declared.constants.MemberConstant.{MemberConstant}
-use Rattle.oxt_tree.proofs.Lists.{drop_at, drop_end}
+use Rattle.oxt_names.proofs.Lists.{drop_at, drop_end}
 
 -- where the first of them stands
 abbrev pub first_in : List MemberConstant → Option (ℕ × ℕ)

@@ -8,7 +8,7 @@ use Rattle.oxt_enums.specs.Held.{held}
 use Rattle.oxt_enums.specs.Tables.{in_bodies, in_enums, in_numbers}
 use Rattle.oxt_enums.specs.declared.enums.EnumConstants.{EnumConstants}
 use Rattle.oxt_names.specs.Constant.{Constant}
-use Rattle.oxt_tree.specs.declared.ids.Span.{Span}
+use Rattle.oxt_names.specs.declared.ids.Span.{Span}
 
 -- the constants of all members, in the order of the text
 abbrev pub list_of : EnumConstants → List Told

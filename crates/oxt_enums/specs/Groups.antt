@@ -6,7 +6,7 @@ use Rattle.oxt_enums.specs.Tables.{Name, at_name}
 use Rattle.oxt_enums.specs.declared.blocks.EnumBlock.{EnumBlock}
 use Rattle.oxt_enums.specs.declared.groups.Group.{Group}
 use Rattle.oxt_enums.specs.declared.groups.Groups.{Groups}
-use Rattle.oxt_tree.specs.declared.ids.NodeId.{NodeId}
+use Rattle.oxt_names.specs.declared.ids.NodeId.{NodeId}
 
 -- an enum: whether its first block is `const`, and the numbers of the bodies of its blocks in the
 -- order of the text

@@ -16,7 +16,7 @@ use Rattle.oxt_enums.specs.declared.tables.Tables.{Tables}
 use Rattle.oxt_scopes.specs.Stack.{number_at}
 use Rattle.oxt_names.specs.Constant.{Constant, constant_view}
 use Rattle.oxt_names.specs.declared.constant.ConstantValue.{ConstantValue}
-use Rattle.oxt_tree.specs.declared.ids.NodeId.{NodeId}
+use Rattle.oxt_names.specs.declared.ids.NodeId.{NodeId}
 
 -- of what a table has for a constant
 abbrev pub value_view : Option ConstantValue → Option Constant

@@ -7,14 +7,14 @@ ghost use Rattle.oxt_scopes.specs.Views.{opened_views};
 ghost use Rattle.oxt_tree.specs.View.{doc_or_nil};
 
 use oxt_declares::declaration::{Declaration, Sort};
+use oxt_names::ids::{NodeId, OutOfMemory};
 use oxt_scopes::scopes::OpenedScope;
 use oxt_scopes::standing::{Emission, Standing};
-use oxt_tree::ids::{NodeId, OutOfMemory};
 use oxt_tree::tree::Part;
 use std::alloc::Global;
 
 /// A block of an enum.
-#[derive(Clone, Copy, PartialEq, Eq)]
+#[derive(Clone, Copy)]
 pub struct EnumBlock<'a> {
     /// The number of its body, which opens a scope.
     pub body: NodeId,

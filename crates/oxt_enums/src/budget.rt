@@ -6,7 +6,7 @@ ghost use Rattle.oxt_enums.specs.Tables.{value_view};
 
 use oxt_constant::meter::TextMeter;
 use oxt_names::constant::ConstantValue;
-use oxt_tree::ids::OutOfMemory;
+use oxt_names::ids::OutOfMemory;
 
 /// What the constants of the members took so far.
 #[derive(Drop)]

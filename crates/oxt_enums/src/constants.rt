@@ -19,13 +19,13 @@ use crate::owners::Owners;
 use crate::tables::Tables;
 use oxt_constant::member::{Before, is_wide};
 use oxt_names::constant::ConstantValue;
+use oxt_names::ids::{NodeId, OutOfMemory, Span};
 use oxt_scopes::owners::OwnedName;
-use oxt_tree::ids::{NodeId, OutOfMemory, Span};
 use oxt_tree::tree::Node;
 use std::alloc::Global;
 
 /// The constant of a member of an enum.
-#[derive(Drop, PartialEq, Eq)]
+#[derive(Drop)]
 pub struct MemberConstant {
     /// The number of the member.
     pub node: NodeId,

@@ -15,9 +15,9 @@ use crate::blocks::blocks_of;
 use crate::constants::{Evaluated, MemberConstant, constants_in};
 use crate::groups::Groups;
 use oxt_names::constant::ConstantValue;
+use oxt_names::ids::{NodeId, OutOfMemory, Span};
 use oxt_scopes::owners::{OwnedName, owners_of};
 use oxt_scopes::scopes::{OpenedScope, scopes_of};
-use oxt_tree::ids::{NodeId, OutOfMemory, Span};
 use oxt_tree::tree::Node;
 use std::alloc::Global;
 

@@ -6,7 +6,7 @@ ghost use Rattle.oxt_enums.specs.Groups.{Puts, enum_at, enum_in, enum_view, exte
 
 use crate::blocks::EnumBlock;
 use indexmap::IndexMap;
-use oxt_tree::ids::{NodeId, OutOfMemory};
+use oxt_names::ids::{NodeId, OutOfMemory};
 use std::alloc::Global;
 
 /// An enum.

@@ -6,7 +6,7 @@ ghost use Rattle.oxt_enums.specs.Tables.{at_number, home_at};
 
 use crate::blocks::EnumBlock;
 use indexmap::IndexMap;
-use oxt_tree::ids::{NodeId, OutOfMemory};
+use oxt_names::ids::{NodeId, OutOfMemory};
 use std::alloc::Global;
 
 /// The blocks of enums, by the numbers of their bodies.

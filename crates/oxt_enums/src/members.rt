@@ -9,7 +9,7 @@ ghost use Rattle.oxt_tree.specs.View.{doc_or_nil, docs_in, node_doc, part_doc};
 use oxt_declares::declares::member_name_of;
 use oxt_grammar::field::Field;
 use oxt_grammar::kind::Kind;
-use oxt_tree::ids::{NodeId, OutOfMemory};
+use oxt_names::ids::{NodeId, OutOfMemory};
 use oxt_tree::tree::{Node, Part};
 use std::alloc::Global;
 

@@ -5,7 +5,7 @@ use crate::owners::Owners;
 use crate::tables::Tables;
 use oxt_constant::meanings::Meanings;
 use oxt_names::constant::ConstantValue;
-use oxt_tree::ids::NodeId;
+use oxt_names::ids::NodeId;
 
 /// What names mean behind the members of which the tables tell.
 #[derive(Clone, Copy)]

@@ -6,8 +6,8 @@ ghost use Rattle.oxt_scopes.specs.OwnedViews.{owned_views};
 ghost use Rattle.oxt_scopes.specs.Stack.{number_at};
 
 use indexmap::IndexMap;
+use oxt_names::ids::{NodeId, OutOfMemory};
 use oxt_scopes::owners::OwnedName;
-use oxt_tree::ids::{NodeId, OutOfMemory};
 use std::alloc::Global;
 
 /// The owners of the names of a tree.

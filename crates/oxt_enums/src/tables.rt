@@ -21,7 +21,7 @@ use indexmap::IndexMap;
 use oxt_constant::member::{Before, member_constant};
 use oxt_constant::meter::TextMeter;
 use oxt_names::constant::ConstantValue;
-use oxt_tree::ids::{NodeId, OutOfMemory};
+use oxt_names::ids::{NodeId, OutOfMemory};
 use oxt_tree::tree::Node;
 use std::alloc::Global;
 use std::hash::Hash;

@@ -21,10 +21,10 @@ use crate::parts::{field_mut, put_field};
 use oxt_ctx::context::TraverseCtx;
 use oxt_grammar::field::Field;
 use oxt_grammar::kind::Kind;
+use oxt_names::ids::OutOfMemory;
 use oxt_options::{RewriteExtensionsMode, TypeScriptOptions};
 use oxt_traverse::hook::Hook;
 use oxt_traverse::pass::Pass;
-use oxt_tree::ids::OutOfMemory;
 use oxt_tree::tree::{Node, Part};
 use std::alloc::Global;
 

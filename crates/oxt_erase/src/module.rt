@@ -25,11 +25,11 @@ use oxt_ctx::nodes::{assignment, member, property_name, statement};
 use oxt_grammar::field::Field;
 use oxt_grammar::kind::Kind;
 use oxt_names::flags::ReferenceFlags;
+use oxt_names::ids::OutOfMemory;
+use oxt_names::name::Name;
 use oxt_options::Module;
 use oxt_traverse::hook::Hook;
 use oxt_traverse::pass::Pass;
-use oxt_tree::ids::OutOfMemory;
-use oxt_tree::name::Name;
 use oxt_tree::tree::{Node, Part};
 use std::alloc::Global;
 

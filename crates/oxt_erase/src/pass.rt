@@ -24,9 +24,9 @@ use crate::fields::clear_types;
 use crate::opening::{open_target, open_wrapper};
 use crate::statements::{drop_elements, drop_erased};
 use oxt_ctx::context::TraverseCtx;
+use oxt_names::ids::OutOfMemory;
 use oxt_traverse::hook::Hook;
 use oxt_traverse::pass::Pass;
-use oxt_tree::ids::OutOfMemory;
 use oxt_tree::tree::{Node, Part};
 
 /// The pass that erases what stands for nothing at run time: declarations and class elements of
@@ -66,7 +66,7 @@ impl Pass for TypeScriptAnnotations {
 }
 
 /// What is erased of a node.
-#[derive(Clone, Copy, PartialEq, Eq)]
+#[derive(Clone, Copy)]
 enum Erased {
     /// The wrapper that it is.
     Wrapper,

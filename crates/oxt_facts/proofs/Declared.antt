@@ -1,7 +1,7 @@
 -- The groups of names in a word, one item after the other.
 use Rattle.std.proofs.Common.{◌≡◌, ◌∙◌, refl, sym, ap, ℕ, zero, suc, ◌+◌, ◌<◌, ◌≤◌, List, [], ◌∷◌, ◌++◌, map, length, drop, take, get_or, add-one, arith}
 use Rattle.std.proofs.Math.ListN.{set}
-use Rattle.oxt_tree.proofs.Lists.{drop_at, drop_end}
+use Rattle.oxt_names.proofs.Lists.{drop_at, drop_end}
 use Rattle.oxt_facts.specs.Entry.{Entry, entries, entry_of}
 use Rattle.oxt_facts.specs.Groups.{groups_met, met_in, with_number_among}
 use Rattle.oxt_facts.specs.declared.item.Item.{Item}

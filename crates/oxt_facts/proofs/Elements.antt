@@ -1,7 +1,7 @@
 -- The elements of a class, one at a time, and the last of some parts.
 use Rattle.std.proofs.Common.{arith, ℕ, ◌+◌, ◌<◌, ◌≤◌, ◌-◌, ◌≡◌, refl, sym, ap, subst, ◌∙◌, List, [], ◌∷◌, length, drop, get_or, slice_get, Option, None, Some}
 use Rattle.std.specs.Prelude.{⊤}
-use Rattle.oxt_tree.proofs.Lists.{drop_at, drop_end}
+use Rattle.oxt_names.proofs.Lists.{drop_at, drop_end}
 use Rattle.oxt_tree.specs.View.{docs_in, part_doc}
 use Rattle.oxt_tree.specs.declared.tree.Part.{Part}
 use Rattle.oxt_facts.specs.Facts.{Known}

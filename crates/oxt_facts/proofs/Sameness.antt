@@ -4,10 +4,10 @@ use Rattle.std.proofs.lemmas.Bool.Decides.{Decides-eqb}
 use Rattle.std.proofs.lemmas.Slice.Eq.{bytes_eq-Decides}
 use Rattle.oxt_grammar.specs.Kinds.{name_of}
 use Rattle.oxt_grammar.specs.Words.{text_of}
-use Rattle.oxt_tree.proofs.Lists.{drop_at, drop_end}
+use Rattle.oxt_names.proofs.Lists.{drop_at, drop_end}
 use Rattle.oxt_tree.specs.Doc.{Doc, nil, flag, number, text, list, node}
 use Rattle.oxt_tree.specs.Fields.{is_nil, is_text}
-use Rattle.oxt_tree.specs.Names.{name_bytes}
+use Rattle.oxt_names.specs.Names.{name_bytes}
 use Rattle.oxt_facts.specs.Compare.{is_flag, is_number, same_atom, same_atoms, without_group}
 use Rattle.oxt_facts.specs.Entry.{Entry, atom_doc, binding_text, entry_of}
 use Rattle.oxt_facts.specs.declared.item.Atom.{Atom}

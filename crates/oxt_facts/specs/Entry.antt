@@ -3,7 +3,7 @@ use Rattle.std.specs.Prelude.{ℕ, List, [], ◌∷◌, Option, None, codes, map
 use Rattle.oxt_grammar.specs.Kinds.{name_of}
 use Rattle.oxt_grammar.specs.Words.{text_of}
 use Rattle.oxt_tree.specs.Doc.{Doc, nil, flag, number, text, list, node}
-use Rattle.oxt_tree.specs.Names.{name_bytes}
+use Rattle.oxt_names.specs.Names.{name_bytes}
 use Rattle.oxt_facts.specs.declared.item.Atom.{Atom}
 use Rattle.oxt_facts.specs.declared.item.Atom.TheVariants as atom
 use Rattle.oxt_facts.specs.declared.item.Binding.{Binding}

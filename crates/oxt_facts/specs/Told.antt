@@ -28,7 +28,7 @@ use Rattle.oxt_facts.specs.declared.told.ToldType.TheVariants as told_type
 use Rattle.oxt_facts.specs.declared.told.ToldUse.{ToldUse}
 use Rattle.oxt_facts.specs.declared.told.ToldUse.TheVariants as told_use
 use Rattle.oxt_names.specs.Constant.{Constant, constant_view}
-use Rattle.oxt_tree.specs.Names.{name_bytes}
+use Rattle.oxt_names.specs.Names.{name_bytes}
 use Rattle.std.specs.Prelude.{Vec}
 use Rattle.std.specs.declared.alloc.Global.{Global}
 

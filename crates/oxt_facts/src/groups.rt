@@ -5,7 +5,7 @@ ghost use Rattle.oxt_facts.specs.Groups.{groups_met, is_declaring, met_in, numbe
 
 use crate::item::{Item, ItemKind};
 use indexmap::IndexSet;
-use oxt_tree::ids::OutOfMemory;
+use oxt_names::ids::OutOfMemory;
 use std::alloc::Global;
 
 /// Numbers the groups of names in the items by the first item that declares each: the first is 0. A name of a group that

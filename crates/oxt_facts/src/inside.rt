@@ -13,7 +13,7 @@ use crate::told::Told;
 use oxt_grammar::category::Category;
 use oxt_grammar::field::Field;
 use oxt_grammar::kind::Kind;
-use oxt_tree::ids::OutOfMemory;
+use oxt_names::ids::OutOfMemory;
 use oxt_tree::tree::{Node, Part};
 
 /// What is known inside the node, where that is more than around it: in a block of an enum that becomes a function, and in

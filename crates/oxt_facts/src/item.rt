@@ -3,7 +3,7 @@ ghost use Rattle.std.specs.Prelude.{◌≡◌};
 
 use oxt_grammar::kind::Kind;
 use oxt_grammar::word::Word;
-use oxt_tree::name::Name;
+use oxt_names::name::Name;
 
 /// What an item stands for.
 #[derive(Clone, Copy, PartialEq, Eq)]
@@ -116,7 +116,7 @@ impl ItemKind {
 }
 
 /// What a name is declared as.
-#[derive(Clone, Copy, PartialEq, Eq)]
+#[derive(Clone, Copy)]
 pub enum Binding {
     Var,
     Let,

@@ -4,7 +4,7 @@ ghost use Rattle.indexmap.specs.IndexMap.{insert_entry};
 ghost use Rattle.oxt_facts.specs.Owners.{owner_in};
 
 use indexmap::IndexMap;
-use oxt_tree::ids::{NodeId, OutOfMemory};
+use oxt_names::ids::{NodeId, OutOfMemory};
 use std::alloc::Global;
 use std::marker::Model;
 

@@ -3,8 +3,8 @@ ghost use Rattle.std.specs.Prelude.{◌≡◌, OnErr, OnOk, option_map};
 ghost use Rattle.oxt_names.specs.Made.{added, is_among};
 ghost use Rattle.oxt_facts.specs.Privates.{after_front, no_privates, one_of, owner_of_end, storage_owner};
 
+use oxt_names::ids::OutOfMemory;
 use oxt_names::uid::UidNames;
-use oxt_tree::ids::OutOfMemory;
 use std::alloc::Global;
 use std::marker::Model;
 

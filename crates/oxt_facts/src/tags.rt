@@ -8,7 +8,7 @@ ghost use Rattle.oxt_facts.specs.Tags.{is_tagged, noted, numbered, tag_in, with_
 
 use crate::item::{Atom, Item, ItemKind};
 use indexmap::IndexSet;
-use oxt_tree::ids::OutOfMemory;
+use oxt_names::ids::OutOfMemory;
 use std::alloc::Global;
 
 /// Numbers the made names of the items by their first occurrence: the first is 0.

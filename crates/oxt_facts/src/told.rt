@@ -5,8 +5,8 @@ ghost use Rattle.oxt_facts.specs.Told.{told_of, told_view};
 
 use indexmap::IndexMap;
 use oxt_names::constant::ConstantValue;
-use oxt_tree::ids::{NodeId, OutOfMemory};
-use oxt_tree::name::Name;
+use oxt_names::ids::{NodeId, OutOfMemory};
+use oxt_names::name::Name;
 use std::alloc::Global;
 use std::marker::Model;
 
@@ -342,7 +342,7 @@ impl ToldNodes {
     pub fn tell(&mut self, node: NodeId, told: Told) -> Result<(), OutOfMemory>
         ensures { OnOk result (self.new ≡ insert_entry nat_eq self.old node.0 (told_view told)) }
     {
-        let_go(self.nodes.insert(node.0, told)?);
+        drop(self.nodes.insert(node.0, told)?);
         Ok(())
     }
 
@@ -353,6 +353,3 @@ impl ToldNodes {
         self.nodes.get(&node.0)
     }
 }
-
-/// Drops what was told before.
-fn let_go(_earlier: Option<Told>) {}

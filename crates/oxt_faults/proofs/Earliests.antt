@@ -3,7 +3,7 @@ use Rattle.std.proofs.Common.{◌≡◌, ◌∙◌, ap, sym, ℕ, ◌+◌, ◌<�
 use Rattle.oxt_faults.specs.Captured.{Capture}
 use Rattle.oxt_faults.specs.Earliest.{earlier_of, moved_view}
 use Rattle.oxt_faults.specs.declared.earliest.MovedName.{MovedName}
-use Rattle.oxt_tree.proofs.Lists.{drop_at, drop_end}
+use Rattle.oxt_names.proofs.Lists.{drop_at, drop_end}
 use Rattle.oxt_tree.specs.Doc.{Doc}
 use Rattle.oxt_tree.specs.Fields.{docs_list}
 use Rattle.oxt_tree.specs.View.{docs_in, part_doc}

@@ -3,7 +3,7 @@ use Rattle.std.proofs.Common.{◌≡◌, ◌∙◌, ap, sym, ℕ, ◌+◌, ◌<�
 use Rattle.oxt_faults.specs.Initializers.{lesser}
 use Rattle.oxt_faults.specs.Level.{LevelWordAt, found_view}
 use Rattle.oxt_faults.specs.declared.level.FoundWord.{FoundWord}
-use Rattle.oxt_tree.proofs.Lists.{drop_at, drop_end}
+use Rattle.oxt_names.proofs.Lists.{drop_at, drop_end}
 
 -- one word more
 pub least_more : (o o' : Option LevelWordAt) (ws : List FoundWord) (i : ℕ) (w : FoundWord) → i < length ws → w ≡ get_or ws i w → o' ≡ lesser o (found_view w)

@@ -15,7 +15,7 @@ use Rattle.oxt_scoping.specs.Scoped.{Scoped}
 use Rattle.oxt_scoping.specs.declared.entry.Redeclaration.{Redeclaration}
 use Rattle.oxt_search.specs.First.{first_in}
 use Rattle.oxt_names.specs.declared.ids.SymbolId.{SymbolId}
-use Rattle.oxt_tree.proofs.Lists.{drop_end}
+use Rattle.oxt_names.proofs.Lists.{drop_end}
 use Rattle.oxt_tree.specs.Doc.{Doc}
 use Rattle.oxt_declares.specs.Dropped.{is_dropped_by}
 

@@ -7,13 +7,12 @@ use oxt_fields::class::{constructor_of, elements_of};
 use oxt_fields::fate::hoists_private;
 use oxt_grammar::field::Field;
 use oxt_grammar::kind::Kind;
-use oxt_names::ids::ScopeId;
+use oxt_names::ids::{NodeId, ScopeId};
 use oxt_scoping::scoping::Scoping;
-use oxt_tree::ids::NodeId;
 use oxt_tree::tree::{Node, Part};
 
 /// The scopes of a class that has a constructor with a body.
-#[derive(Clone, Copy, PartialEq, Eq)]
+#[derive(Clone, Copy)]
 pub struct ClassScopes {
     /// That of the class itself.
     pub own: ScopeId,
@@ -22,7 +21,7 @@ pub struct ClassScopes {
 }
 
 /// What is known of the class around a field.
-#[derive(Clone, Copy, PartialEq, Eq)]
+#[derive(Clone, Copy)]
 pub struct ClassAround {
     /// Private instance fields move too.
     pub hoists: bool,

@@ -18,12 +18,11 @@ use oxt_grammar::holds::Row;
 use oxt_grammar::kind::Kind;
 use oxt_modules::nodes::NodeList;
 use oxt_names::flags::ReferenceFlags;
-use oxt_names::ids::SymbolId;
+use oxt_names::ids::{NodeId, OutOfMemory, SymbolId};
+use oxt_names::name::Name;
 use oxt_scoping::scoping::Scoping;
 use oxt_search::first::first_in;
 use oxt_search::search::{Inside, Search, Visit};
-use oxt_tree::ids::{NodeId, OutOfMemory};
-use oxt_tree::name::Name;
 use oxt_tree::tree::Node;
 use std::alloc::Global;
 

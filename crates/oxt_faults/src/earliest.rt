@@ -4,7 +4,7 @@ ghost use Rattle.oxt_faults.specs.Earliest.{earlier, earlier_of, earliest, moved
 ghost use Rattle.oxt_faults.specs.Level.{found_view};
 
 use crate::level::FoundWord;
-use oxt_tree::ids::NodeId;
+use oxt_names::ids::NodeId;
 
 /// A name that would mean something else once the fields of its class move.
 #[derive(Clone, Copy)]

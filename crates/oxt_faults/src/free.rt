@@ -19,16 +19,15 @@ use oxt_grammar::holds::Row;
 use oxt_grammar::kind::Kind;
 use oxt_modules::alias::is_required;
 use oxt_modules::nodes::NodeList;
-use oxt_names::ids::{ScopeId, SymbolId};
+use oxt_names::ids::{NodeId, ScopeId, SymbolId};
 use oxt_options::metadata::GlobalName;
 use oxt_scoping::scoping::Scoping;
 use oxt_search::first::first_in;
 use oxt_search::search::{Inside, Search, Visit};
-use oxt_tree::ids::NodeId;
 use oxt_tree::tree::{Node, Part};
 
 /// A name that lowered code has of its own.
-#[derive(Clone, Copy, PartialEq, Eq)]
+#[derive(Clone, Copy)]
 pub enum FreeWord {
     /// `module`, for `export = e`.
     Module,

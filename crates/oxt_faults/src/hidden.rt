@@ -14,12 +14,11 @@ use oxt_grammar::field::Field;
 use oxt_grammar::holds::Row;
 use oxt_grammar::kind::Kind;
 use oxt_names::flags::{ReferenceFlags, SymbolFlags};
-use oxt_names::ids::{ScopeId, SymbolId};
+use oxt_names::ids::{NodeId, ScopeId, SymbolId};
 use oxt_scoping::entry::{Reference, value_flags};
 use oxt_scoping::scoping::Scoping;
 use oxt_search::first::{first_among, first_in};
 use oxt_search::search::{Inside, Search, Visit};
-use oxt_tree::ids::NodeId;
 use oxt_tree::tree::{Node, Part};
 
 /// The first name in the part, outside of types and of what is erased, that comes from outside the class with these scopes

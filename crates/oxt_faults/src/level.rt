@@ -9,13 +9,13 @@ use crate::word::{Destination, LevelWord, word_at};
 use oxt_grammar::field::Field;
 use oxt_grammar::holds::Row;
 use oxt_grammar::kind::Kind;
+use oxt_names::ids::NodeId;
 use oxt_search::first::{first_among, first_in};
 use oxt_search::search::{Inside, Search, Visit};
-use oxt_tree::ids::NodeId;
 use oxt_tree::tree::{Node, Part};
 
 /// A word at the level of some code.
-#[derive(Clone, Copy, PartialEq, Eq)]
+#[derive(Clone, Copy)]
 pub struct FoundWord {
     /// The word.
     pub word: LevelWord,

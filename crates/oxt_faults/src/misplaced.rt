@@ -18,9 +18,9 @@ use oxt_declares::dropped::{inside_dropped, is_dropped};
 use oxt_fields::rules::FieldRules;
 use oxt_grammar::holds::Row;
 use oxt_grammar::kind::Kind;
+use oxt_names::ids::NodeId;
 use oxt_search::first::first_in;
 use oxt_search::search::{Inside, Search, Visit};
-use oxt_tree::ids::NodeId;
 use oxt_tree::tree::Node;
 
 /// What is wrong with the place of a node.

@@ -5,10 +5,9 @@ ghost use Rattle.oxt_options.specs.Facts.{is_in};
 ghost use Rattle.oxt_faults.specs.Marks.{captured_symbols, emitting_symbols, mark_at};
 
 use oxt_modules::nodes::NodeList;
-use oxt_names::ids::{ScopeId, SymbolId};
+use oxt_names::ids::{OutOfMemory, ScopeId, SymbolId};
 use oxt_scoping::entry::Redeclaration;
 use oxt_scoping::scoping::Scoping;
-use oxt_tree::ids::OutOfMemory;
 use std::alloc::Global;
 
 /// Of each symbol whether no declaration of it emits code, but for those whose names are left out, while its name means one

@@ -7,9 +7,9 @@ ghost use Rattle.oxt_tree.specs.View.{docs_in};
 use oxt_declares::dropped::{inside_dropped, is_dropped};
 use oxt_grammar::holds::Row;
 use oxt_grammar::kind::Kind;
+use oxt_names::ids::NodeId;
 use oxt_search::first::first_among;
 use oxt_search::search::{Inside, Search, Visit};
-use oxt_tree::ids::NodeId;
 use oxt_tree::tree::Node;
 
 /// Whether a private `in` stands in the decorator at any depth, outside what is erased where decorators have their older

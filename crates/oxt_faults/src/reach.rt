@@ -11,7 +11,7 @@ use oxt_grammar::holds::Row;
 use oxt_grammar::kind::Kind;
 
 /// What of a node stands at the level.
-#[derive(Clone, Copy, PartialEq, Eq)]
+#[derive(Clone, Copy)]
 pub enum Reach {
     /// The node is code at the level.
     Level,

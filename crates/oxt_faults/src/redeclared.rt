@@ -18,12 +18,11 @@ use oxt_grammar::holds::Row;
 use oxt_grammar::kind::Kind;
 use oxt_modules::nodes::NodeList;
 use oxt_names::flags::SymbolFlags;
-use oxt_names::ids::{ScopeId, SymbolId};
+use oxt_names::ids::{NodeId, OutOfMemory, ScopeId, SymbolId};
 use oxt_scoping::entry::Redeclaration;
 use oxt_scoping::scoping::Scoping;
 use oxt_search::all::all_in;
 use oxt_search::search::{Inside, Search, Visit};
-use oxt_tree::ids::{NodeId, OutOfMemory};
 use oxt_tree::tree::{Node, Part};
 use std::alloc::Global;
 

@@ -16,7 +16,7 @@ use oxt_grammar::category::Category;
 use oxt_grammar::field::Field;
 use oxt_grammar::kind::Kind;
 use oxt_modules::alias::is_alias;
-use oxt_tree::ids::NodeId;
+use oxt_names::ids::NodeId;
 use oxt_tree::tree::{Node, Part};
 
 /// The kinds in which a node may be misplaced by what stands around it, in the order in which they are answered.

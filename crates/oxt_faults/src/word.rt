@@ -8,7 +8,7 @@ use oxt_grammar::kind::Kind;
 use oxt_tree::tree::Node;
 
 /// A word that would mean something else in another function.
-#[derive(Clone, Copy, PartialEq, Eq)]
+#[derive(Clone, Copy)]
 pub enum LevelWord {
     /// `this`.
     This,
@@ -41,7 +41,7 @@ impl LevelWord {
 }
 
 /// Where code goes, by which some words in it would mean something else.
-#[derive(Clone, Copy, PartialEq, Eq)]
+#[derive(Clone, Copy)]
 pub enum Destination {
     /// A function or a static block, in which code around it goes.
     Deeper,

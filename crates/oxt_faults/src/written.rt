@@ -15,10 +15,10 @@ use oxt_grammar::field::Field;
 use oxt_grammar::holds::Row;
 use oxt_grammar::kind::Kind;
 use oxt_metadata::symbols::meant;
+use oxt_names::ids::NodeId;
 use oxt_scoping::scoping::Scoping;
 use oxt_search::first::{first_among, first_in};
 use oxt_search::search::{Inside, Search, Visit};
-use oxt_tree::ids::NodeId;
 use oxt_tree::tree::{Node, Part};
 
 /// The first name in the program that metadata writes and that means a marked symbol. Where it stands in erased code it is

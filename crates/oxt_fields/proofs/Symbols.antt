@@ -14,7 +14,7 @@ use Rattle.oxt_scoping.specs.Entries.{SymbolData}
 use Rattle.oxt_scoping.specs.Scoped.{Scoped}
 use Rattle.oxt_scoping.specs.declared.entry.Slot.{Slot}
 use Rattle.oxt_search.specs.All.{all_in}
-use Rattle.oxt_tree.proofs.Lists.{drop_end}
+use Rattle.oxt_names.proofs.Lists.{drop_end}
 use Rattle.oxt_tree.specs.Doc.{Doc}
 
 -- ---- one symbol after another

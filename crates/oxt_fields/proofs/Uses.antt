@@ -11,7 +11,7 @@ use Rattle.oxt_grammar.specs.declared.holds.Row.{Row}
 use Rattle.oxt_search.proofs.Alls.{among_at}
 use Rattle.oxt_search.specs.All.{all_among, all_at, all_in, given}
 use Rattle.oxt_search.specs.Sought.{Sought}
-use Rattle.oxt_tree.proofs.Lists.{drop_end}
+use Rattle.oxt_names.proofs.Lists.{drop_end}
 use Rattle.oxt_tree.proofs.Places.{at_name_position, doc_at, position_from_map}
 use Rattle.oxt_tree.specs.Doc.{Doc, Docs, no_docs, doc}
 use Rattle.oxt_tree.specs.Fields.{at_name}

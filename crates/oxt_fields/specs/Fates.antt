@@ -10,8 +10,7 @@ use Rattle.oxt_grammar.specs.Places.{same_kind}
 use Rattle.oxt_grammar.specs.declared.category.Category.TheVariants as category
 use Rattle.oxt_grammar.specs.declared.kind.Kind.{Kind}
 use Rattle.oxt_grammar.specs.declared.kind.Kind.TheVariants as kind
-use Rattle.oxt_names.specs.Constant.{Constant, integer, string}
-use Rattle.oxt_names.specs.Integer.{is_negative}
+use Rattle.oxt_names.specs.Constant.{Constant, integer, is_negative, string}
 use Rattle.oxt_tree.specs.Doc.{Doc, nil, flag, number, text, list, node, Docs}
 use Rattle.oxt_tree.specs.Fields.{docs_list, elements, is_in, is_kind, is_nil, is_set, named}
 use Rattle.oxt_tree.specs.Inner.{inner_expression}

@@ -15,9 +15,9 @@ use oxt_declares::dropped::{is_declared_field, is_dropped};
 use oxt_decorated::calls::is_decorated;
 use oxt_grammar::field::Field;
 use oxt_grammar::holds::Row;
+use oxt_names::ids::{NodeId, OutOfMemory};
 use oxt_scoping::scoping::Scoping;
 use oxt_tree::fields::place_of;
-use oxt_tree::ids::{NodeId, OutOfMemory};
 use oxt_tree::tree::{Node, Part};
 use std::alloc::Global;
 

@@ -17,7 +17,7 @@ use oxt_names::constant::ConstantValue;
 use oxt_tree::tree::{Node, Part};
 
 /// What becomes of an element of a class.
-#[derive(Clone, Copy, PartialEq, Eq)]
+#[derive(Clone, Copy)]
 pub enum Fate {
     /// It stays as it is.
     Stays,

@@ -6,9 +6,8 @@ ghost use Rattle.oxt_scoping.specs.Scoped.{live_at};
 
 use bitflags::Flags;
 use oxt_names::flags::{ReferenceFlags, SymbolFlags};
-use oxt_names::ids::{ReferenceId, SymbolId};
+use oxt_names::ids::{NodeId, OutOfMemory, ReferenceId, SymbolId};
 use oxt_scoping::scoping::Scoping;
-use oxt_tree::ids::{NodeId, OutOfMemory};
 use std::alloc::Global;
 
 /// Of each symbol whether it keeps its value: it is no member of an enum, and no reference to it writes.

@@ -9,10 +9,10 @@ ghost use Rattle.oxt_tree.specs.View.{node_doc};
 use crate::steady::{mark_at, meant, steady_symbols};
 use oxt_grammar::holds::Row;
 use oxt_grammar::kind::Kind;
+use oxt_names::ids::{NodeId, OutOfMemory};
 use oxt_scoping::scoping::Scoping;
 use oxt_search::all::all_in;
 use oxt_search::search::{Inside, Search, Visit};
-use oxt_tree::ids::{NodeId, OutOfMemory};
 use oxt_tree::tree::Node;
 use std::alloc::Global;
 

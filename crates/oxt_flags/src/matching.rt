@@ -9,7 +9,7 @@ ghost use Rattle.oxt_flags.specs.Views.{flag_view};
 use crate::flags::{Flag, flags};
 use clap::error::ErrorKind;
 use clap::{Arg, ArgAction, ArgMatches, Command, Error};
-use oxt_tree::ids::OutOfMemory;
+use oxt_names::ids::OutOfMemory;
 use std::alloc::Global;
 
 // The argument of a flag.

@@ -5,7 +5,7 @@ ghost use Rattle.clap.specs.Words.{first_of, found_of, rows_of};
 ghost use Rattle.oxt_flags.specs.Flags.{given_by, options_with, parsed};
 ghost use Rattle.oxt_flags.specs.Matching.{found_rows, options_for, options_in, is_used, is_words};
 ghost use Rattle.oxt_options.specs.Options.{transform_view};
-ghost use Rattle.oxt_tree.specs.Names.{name_bytes};
+ghost use Rattle.oxt_names.specs.Names.{name_bytes};
 
 use crate::choices::{chosen_extensions, chosen_module};
 use crate::flags::{
@@ -16,9 +16,9 @@ use crate::flags::{
 use crate::matching::{matched, value_of};
 use clap::ArgMatches;
 use clap::parser::ValueSource;
+use oxt_names::ids::OutOfMemory;
+use oxt_names::name::Name;
 use oxt_options::{Module, RewriteExtensionsMode, TransformOptions};
-use oxt_tree::ids::OutOfMemory;
-use oxt_tree::name::Name;
 use std::alloc::Global;
 
 /// The options that the words after the program's name say; none where the words are not taken.

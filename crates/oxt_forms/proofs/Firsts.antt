@@ -1,7 +1,7 @@
 -- Looking for the first statement that is not read as nothing.
 use Rattle.std.proofs.Common.{ℕ, ◌+◌, ◌<◌, ◌≤◌, ◌≡◌, sym, ap, ◌∙◌, List, Bool, true, false, not, ◌&&◌, if◌then◌else◌, length, drop, get_or}
 use Rattle.oxt_facts.specs.Facts.{Known}
-use Rattle.oxt_tree.proofs.Lists.{drop_at, drop_end}
+use Rattle.oxt_names.proofs.Lists.{drop_at, drop_end}
 use Rattle.oxt_tree.specs.Fields.{is_text}
 use Rattle.oxt_tree.specs.View.{docs_in, part_doc}
 use Rattle.oxt_tree.specs.declared.tree.Part.{Part}

@@ -5,7 +5,7 @@ ghost use Rattle.oxt_facts.specs.Facts.{is_made};
 ghost use Rattle.oxt_forms.specs.Forms.{within};
 ghost use Rattle.oxt_forms.specs.Made.{alias_of, are_silent, is_keep, is_loud, is_made_binding, is_made_use, is_quiet, is_silent, is_silent_declaration, is_silent_declarator, is_told_gone};
 ghost use Rattle.oxt_tree.specs.Fields.{named};
-ghost use Rattle.oxt_tree.specs.Names.{name_bytes};
+ghost use Rattle.oxt_names.specs.Names.{name_bytes};
 ghost use Rattle.oxt_tree.specs.View.{docs_in, part_doc};
 ghost use Rattle.oxt_grammar.specs.Keys.{key_of};
 
@@ -14,7 +14,7 @@ use oxt_facts::facts::Facts;
 use oxt_facts::told::Told;
 use oxt_grammar::field::Field;
 use oxt_grammar::kind::Kind;
-use oxt_tree::name::Name;
+use oxt_names::name::Name;
 use oxt_tree::tree::{Node, Part};
 
 /// The tag of the made name as which the part is read, by what is told of it.

@@ -7,7 +7,7 @@ ghost use Rattle.oxt_grammar.specs.Categories.{kinds_in};
 use crate::kind::Kind;
 
 /// A set of kinds that may stand at a place.
-#[derive(Clone, Copy, PartialEq, Eq)]
+#[derive(Clone, Copy)]
 pub enum Category {
     Declaration,
     Statement,

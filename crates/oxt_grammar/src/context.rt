@@ -5,7 +5,7 @@ ghost use Rattle.oxt_grammar.specs.Context.{condition_of, setting_of};
 use crate::kind::Kind;
 
 /// A condition on a node beside what its fields hold.
-#[derive(Clone, Copy, PartialEq, Eq)]
+#[derive(Clone, Copy)]
 pub enum Condition {
     Nothing,
     ElementKey,
@@ -21,7 +21,7 @@ pub enum Condition {
 }
 
 /// What a node stands directly in, as far as that narrows what its fields hold.
-#[derive(Clone, Copy, PartialEq, Eq)]
+#[derive(Clone, Copy)]
 pub enum Setting {
     Elsewhere,
     NamedExport,

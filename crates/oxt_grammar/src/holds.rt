@@ -9,7 +9,7 @@ use crate::field::Field;
 use crate::word::Words;
 
 /// What may stand in a field.
-#[derive(Clone, Copy, PartialEq, Eq)]
+#[derive(Clone, Copy)]
 pub enum Holds {
     /// A text.
     Text,
@@ -38,7 +38,7 @@ pub enum Holds {
 }
 
 /// Whether a field has to be there.
-#[derive(Clone, Copy, PartialEq, Eq)]
+#[derive(Clone, Copy)]
 pub enum Presence {
     /// It has to be there.
     Required,

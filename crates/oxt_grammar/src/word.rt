@@ -4,7 +4,7 @@ ghost use Rattle.std.specs.Str.{bytes_eq};
 ghost use Rattle.oxt_grammar.specs.Words.{text_of, words_in};
 
 /// A word that a field may hold.
-#[derive(Clone, Copy, PartialEq, Eq)]
+#[derive(Clone, Copy)]
 pub enum Word {
     Module,
     Script,
@@ -75,7 +75,7 @@ impl Word {
 }
 
 /// The words that a field may hold, named after the field.
-#[derive(Clone, Copy, PartialEq, Eq)]
+#[derive(Clone, Copy)]
 pub enum Words {
     SourceType,
     Lang,

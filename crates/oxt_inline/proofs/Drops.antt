@@ -9,7 +9,7 @@ use Rattle.oxt_options.specs.Options.{TypeScriptData}
 use Rattle.oxt_scoping.specs.Scoped.{Scoped}
 use Rattle.oxt_tree.specs.Doc.{Doc}
 use Rattle.oxt_tree.specs.Syntax.{is_definition_file}
-use Rattle.oxt_tree.specs.declared.ids.NodeId.{NodeId}
+use Rattle.oxt_names.specs.declared.ids.NodeId.{NodeId}
 
 -- the set has what is needed
 by_needs : (ns : List ℕ) (s : Scoped) (ks zs : ℕ → Bool) (d : Doc) (o : TypeScriptData) (l : Bool) → ((n : ℕ) → is_in ns n ≡ is_in (needed s ks d o l) n) → optimizes o ≡ true → is_definition_file d ≡ false → dropped_by (both_need (is_in ns) zs) s d o l ≡ dropped s ks zs d o l

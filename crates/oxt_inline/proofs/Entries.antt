@@ -7,7 +7,7 @@ use Rattle.oxt_inline.specs.Constants.{entry_at, first_valued, is_named, own_val
 use Rattle.oxt_inline.specs.declared.constants.Valued.{Valued}
 use Rattle.oxt_names.specs.Constant.{Constant}
 use Rattle.oxt_names.specs.declared.constant.ConstantValue.{ConstantValue}
-use Rattle.oxt_tree.proofs.Lists.{drop_at, drop_end}
+use Rattle.oxt_names.proofs.Lists.{drop_at, drop_end}
 
 abbrev pub Entries : Type 0
 Entries = List (Name × Bor ConstantValue)

@@ -6,8 +6,8 @@ use Rattle.oxt_inline.specs.declared.inlined.Inlined.{Inlined}
 use Rattle.oxt_names.specs.Constant.{constant_view}
 use Rattle.oxt_names.specs.declared.constant.ConstantValue.{ConstantValue}
 use Rattle.oxt_options.specs.Lists.{constants_in}
-use Rattle.oxt_tree.proofs.Lists.{drop_at, drop_end}
-use Rattle.oxt_tree.specs.declared.ids.NodeId.{NodeId}
+use Rattle.oxt_names.proofs.Lists.{drop_at, drop_end}
+use Rattle.oxt_names.specs.declared.ids.NodeId.{NodeId}
 
 -- one more
 pub shared_next : (old new : List (NodeId × ConstantValue)) (fs : List Inlined) (i : ℕ) (f : Inlined) (v : ConstantValue) → i < length fs → f ≡ get_or fs i f → constant_view v ≡ constant_view f.value.now → new ≡ old ++ (f.node, v) ∷ [] → constants_in old ++ map inlined_view (drop i fs) ≡ constants_in new ++ map inlined_view (drop (i + 1) fs)

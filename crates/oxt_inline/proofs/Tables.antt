@@ -10,7 +10,7 @@ use Rattle.oxt_options.specs.Lists.{constants_in as listed}
 use Rattle.oxt_options.specs.Options.{TypeScriptData}
 use Rattle.oxt_scoping.specs.Scoped.{Scoped}
 use Rattle.oxt_tree.specs.Doc.{Doc}
-use Rattle.oxt_tree.specs.declared.ids.NodeId.{NodeId}
+use Rattle.oxt_names.specs.declared.ids.NodeId.{NodeId}
 
 -- constants that are the same of each name are the same
 same_named : (c : Named) (s : Scoped) (d : Doc) → ((e : ℕ) (x : List ℕ) → c e x ≡ constants_in s d e x) → c ≡ constants_in s d

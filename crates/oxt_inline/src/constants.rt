@@ -12,11 +12,10 @@ use oxt_grammar::field::Field;
 use oxt_grammar::holds::Row;
 use oxt_grammar::kind::Kind;
 use oxt_names::constant::ConstantValue;
-use oxt_names::ids::SymbolId;
+use oxt_names::ids::{NodeId, OutOfMemory, SymbolId};
 use oxt_scoping::scoping::Scoping;
 use oxt_search::all::all_in;
 use oxt_search::search::{Inside, Search, Visit};
-use oxt_tree::ids::{NodeId, OutOfMemory};
 use oxt_tree::tree::Node;
 use std::alloc::Global;
 

@@ -4,9 +4,8 @@ ghost use Rattle.oxt_inline.specs.Names.{meant_at, meant_by, named_symbol};
 ghost use Rattle.oxt_tree.specs.View.{doc_or_nil};
 
 use oxt_grammar::kind::Kind;
-use oxt_names::ids::SymbolId;
+use oxt_names::ids::{NodeId, SymbolId};
 use oxt_scoping::scoping::Scoping;
-use oxt_tree::ids::NodeId;
 use oxt_tree::tree::Part;
 
 /// The symbol that the node there means, if it is a bare name.

@@ -10,7 +10,7 @@ use oxt_grammar::field::Field;
 use oxt_grammar::holds::Row;
 use oxt_grammar::kind::Kind;
 use oxt_modules::nodes::NodeList;
-use oxt_tree::ids::NodeId;
+use oxt_names::ids::NodeId;
 
 /// What a node stands as.
 #[derive(Clone, Copy)]

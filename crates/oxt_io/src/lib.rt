@@ -14,7 +14,7 @@ mod writing;
 
 pub use memory::{MemorySink, MemorySource};
 pub use outcome::{Failed, InputFault};
-pub use oxt_tree::ids::OutOfMemory;
+pub use oxt_names::ids::OutOfMemory;
 pub use reading::{PIECE, Source, read_to_limit};
 pub use std_adapters::{ReaderSource, WriterSink};
 pub use sure::{SureSink, SureSource};

@@ -9,7 +9,7 @@ use super::plan::Plan;
 use super::reading::Source;
 use super::sure::SureSource;
 use super::writing::Sink;
-use oxt_tree::ids::OutOfMemory;
+use oxt_names::ids::OutOfMemory;
 use std::alloc::Global;
 
 /// A source over bytes in memory that tells them.

@@ -3,7 +3,7 @@ ghost use Rattle.std.specs.Prelude.{◌≡◌, ◌<◌, ◌≤◌, ◌↔◌, Is
 ghost use Rattle.oxt_io.specs.Counts.{next_count};
 
 use super::outcome::Failed;
-use oxt_tree::ids::OutOfMemory;
+use oxt_names::ids::OutOfMemory;
 use std::alloc::Global;
 
 #[derive(Drop)]

@@ -6,7 +6,7 @@ ghost use Rattle.std.specs.Io.KnownBytes.{ReadConsumes, WriteAppends};
 use super::outcome::Failed;
 use super::reading::Source;
 use super::writing::Sink;
-use oxt_tree::ids::OutOfMemory;
+use oxt_names::ids::OutOfMemory;
 use std::alloc::Global;
 
 /// A source over bytes in memory that tells them and never fails.

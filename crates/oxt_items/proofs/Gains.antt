@@ -4,10 +4,10 @@ use Rattle.oxt_facts.specs.Entry.{Entry, spelled}
 use Rattle.oxt_facts.specs.Told.{names_view}
 use Rattle.oxt_facts.specs.declared.item.ItemKind.TheVariants as item
 use Rattle.oxt_facts.specs.declared.told.ToldName.{ToldName}
-use Rattle.oxt_tree.proofs.Lists.{drop_at, drop_end}
+use Rattle.oxt_names.proofs.Lists.{drop_at, drop_end}
 use Rattle.oxt_tree.specs.Doc.{text}
-use Rattle.oxt_tree.specs.Names.{name_bytes}
-use Rattle.oxt_tree.specs.declared.name.Name.{Name}
+use Rattle.oxt_names.specs.Names.{name_bytes}
+use Rattle.oxt_names.specs.declared.name.Name.{Name}
 use Rattle.oxt_items.specs.Classes.{empty_field, empty_fields, property_put, property_puts}
 
 pub one_property : (whole : List Entry) (ns : List ToldName) (i : ℕ) (n : ToldName) (old new : List Entry) → i < length ns → n ≡ get_or ns i n → new ≡ old ++ property_put (name_bytes n.name) n.group

@@ -8,10 +8,10 @@ use Rattle.oxt_facts.specs.declared.item.ItemKind.TheVariants as item
 use Rattle.oxt_facts.specs.declared.told.ToldType.{ToldType}
 use Rattle.oxt_forms.specs.Details.{start}
 use Rattle.oxt_grammar.specs.declared.kind.Kind.TheVariants as kind
-use Rattle.oxt_tree.proofs.Lists.{drop_at, drop_end}
+use Rattle.oxt_names.proofs.Lists.{drop_at, drop_end}
 use Rattle.oxt_tree.specs.Doc.{text}
-use Rattle.oxt_tree.specs.Names.{name_bytes}
-use Rattle.oxt_tree.specs.declared.name.Name.{Name}
+use Rattle.oxt_names.specs.Names.{name_bytes}
+use Rattle.oxt_names.specs.declared.name.Name.{Name}
 use Rattle.oxt_items.specs.Metadata.{member_word, member_words, openings, path_word, test_word, tests_word, type_word, types_word}
 
 -- ---- types

@@ -3,8 +3,8 @@ use Rattle.std.proofs.Common.{◌≡◌, ◌∙◌, sym, ap, ℕ, ◌+◌, ◌<�
 use Rattle.oxt_facts.specs.Entry.{Entry}
 use Rattle.oxt_facts.specs.Told.{names_view}
 use Rattle.oxt_facts.specs.declared.told.ToldName.{ToldName}
-use Rattle.oxt_tree.proofs.Lists.{drop_at, drop_end}
-use Rattle.oxt_tree.specs.Names.{name_bytes}
+use Rattle.oxt_names.proofs.Lists.{drop_at, drop_end}
+use Rattle.oxt_names.specs.Names.{name_bytes}
 use Rattle.oxt_items.specs.Namespaces.{name_put, name_puts}
 
 pub one_more : (t : List ℕ) (whole : List Entry) (ns : List ToldName) (i : ℕ) (n : ToldName) (old new : List Entry) → i < length ns → n ≡ get_or ns i n → new ≡ old ++ name_put t (name_bytes n.name) n.group

@@ -12,8 +12,8 @@ use oxt_facts::item::{Atom, Binding, Item, ItemKind};
 use oxt_facts::told::{ToldAccessor, ToldObject, ToldStorage};
 use oxt_forms::put::{put_field_start, put_lone, put_owned, put_spelled, put_start};
 use oxt_grammar::kind::Kind;
-use oxt_tree::ids::OutOfMemory;
-use oxt_tree::name::Name;
+use oxt_names::ids::OutOfMemory;
+use oxt_names::name::Name;
 use std::alloc::Global;
 use std::vec;
 

@@ -4,7 +4,7 @@ ghost use Rattle.std.specs.Prelude.{◌≡◌, [], ◌++◌, OnOk, false, option
 ghost use Rattle.oxt_facts.specs.Entry.{entries, spelled};
 ghost use Rattle.oxt_facts.specs.Told.{calling_view, use_view};
 ghost use Rattle.oxt_tree.specs.Doc.{flag, text};
-ghost use Rattle.oxt_tree.specs.Names.{name_bytes};
+ghost use Rattle.oxt_names.specs.Names.{name_bytes};
 ghost use Rattle.oxt_tree.specs.View.{docs_in};
 ghost use Rattle.oxt_items.specs.Calls.{alias_word, description_word, inner_word, kept_word, receiver_word, tag_of, used_word};
 ghost use Rattle.oxt_items.specs.Helpers.{helper_start};
@@ -18,8 +18,8 @@ use oxt_facts::item::{Atom, Item, ItemKind};
 use oxt_facts::told::{ToldCall, ToldUse};
 use oxt_forms::put::{first_atom, put_lone, put_owned, put_spelled, put_start};
 use oxt_grammar::kind::Kind;
-use oxt_tree::ids::OutOfMemory;
-use oxt_tree::name::Name;
+use oxt_names::ids::OutOfMemory;
+use oxt_names::name::Name;
 use oxt_tree::tree::Node;
 use std::alloc::Global;
 

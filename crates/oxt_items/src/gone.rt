@@ -13,7 +13,7 @@ use oxt_facts::item::{Binding, Item, ItemKind};
 use oxt_forms::put::{put_lone, put_start};
 use oxt_grammar::field::Field;
 use oxt_grammar::kind::Kind;
-use oxt_tree::ids::OutOfMemory;
+use oxt_names::ids::OutOfMemory;
 use oxt_tree::tree::Node;
 use std::alloc::Global;
 

@@ -3,7 +3,7 @@ ghost use Rattle.std.specs.Prelude.{◌≡◌, [], ◌++◌, OnOk, map, option_m
 ghost use Rattle.oxt_facts.specs.Entry.{entries, spelled};
 ghost use Rattle.oxt_facts.specs.Told.{metadata_view, type_view, types_view};
 ghost use Rattle.oxt_tree.specs.Doc.{text};
-ghost use Rattle.oxt_tree.specs.Names.{name_bytes};
+ghost use Rattle.oxt_names.specs.Names.{name_bytes};
 ghost use Rattle.oxt_items.specs.Metadata.{entry_start, guarded_word, list_word, member_words, metadata_word, openings, option_list_entry, option_type_entry, path_word, reference_word, root_word, test_word, tests_word, type_word, typeof_word, types_word, void_word};
 
 use crate::calls::{put_helper_start, put_member};
@@ -15,8 +15,8 @@ use oxt_facts::item::{Atom, Item, ItemKind};
 use oxt_facts::told::{Told, ToldMetadata, ToldReference, ToldType};
 use oxt_forms::put::{put_lone, put_spelled, put_start};
 use oxt_grammar::kind::Kind;
-use oxt_tree::ids::OutOfMemory;
-use oxt_tree::name::Name;
+use oxt_names::ids::OutOfMemory;
+use oxt_names::name::Name;
 use std::alloc::Global;
 
 /// Puts the calls that metadata adds to the decorators: the type of the element itself, those of the parameters, and that of what

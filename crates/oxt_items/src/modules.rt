@@ -3,7 +3,7 @@ ghost use Rattle.std.specs.Prelude.{◌≡◌, ◌∷◌, [], ◌++◌, IfOk, On
 ghost use Rattle.oxt_facts.specs.Entry.{atom_doc, entries, spelled};
 ghost use Rattle.oxt_forms.specs.Details.{start};
 ghost use Rattle.oxt_tree.specs.Doc.{flag, text};
-ghost use Rattle.oxt_tree.specs.Names.{name_bytes};
+ghost use Rattle.oxt_names.specs.Names.{name_bytes};
 ghost use Rattle.oxt_tree.specs.View.{docs_in};
 ghost use Rattle.oxt_items.specs.Modules.{free_word, import_binding, quasi_word, required_start, strict_word, text_or_nil};
 
@@ -12,8 +12,8 @@ use oxt_facts::told::ToldQuasi;
 use oxt_forms::put::{put_lone, put_owned, put_spelled, put_start};
 use oxt_grammar::field::Field;
 use oxt_grammar::kind::Kind;
-use oxt_tree::ids::OutOfMemory;
-use oxt_tree::name::Name;
+use oxt_names::ids::OutOfMemory;
+use oxt_names::name::Name;
 use oxt_tree::tree::Node;
 use std::alloc::Global;
 use std::vec;

@@ -6,7 +6,7 @@ ghost use Rattle.oxt_facts.specs.Told.{names_view};
 ghost use Rattle.oxt_forms.specs.Details.{start};
 ghost use Rattle.oxt_grammar.specs.declared.kind.Kind.TheVariants as kind;
 ghost use Rattle.oxt_tree.specs.Doc.{text};
-ghost use Rattle.oxt_tree.specs.Names.{name_bytes};
+ghost use Rattle.oxt_names.specs.Names.{name_bytes};
 ghost use Rattle.oxt_items.specs.Classes.{empty_field, empty_fields, passing, property_put, property_puts};
 
 use crate::enums::{put_operation, put_text, put_use};
@@ -14,8 +14,8 @@ use oxt_facts::item::{Item, ItemKind};
 use oxt_facts::told::ToldName;
 use oxt_forms::put::{put_field_start, put_lone};
 use oxt_grammar::kind::Kind;
-use oxt_tree::ids::OutOfMemory;
-use oxt_tree::name::Name;
+use oxt_names::ids::OutOfMemory;
+use oxt_names::name::Name;
 use std::alloc::Global;
 
 /// Puts the start of a constructor that is made.

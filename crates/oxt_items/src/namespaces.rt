@@ -3,7 +3,7 @@ ghost use Rattle.std.specs.Prelude.{◌≡◌, ◌∷◌, [], ◌++◌, OnOk, fa
 ghost use Rattle.oxt_facts.specs.Entry.{detailed, entries, spelled};
 ghost use Rattle.oxt_facts.specs.Told.{names_view, namespace_view};
 ghost use Rattle.oxt_tree.specs.Doc.{flag, text};
-ghost use Rattle.oxt_tree.specs.Names.{name_bytes};
+ghost use Rattle.oxt_names.specs.Names.{name_bytes};
 ghost use Rattle.oxt_items.specs.Namespaces.{based_word, declared_way, name_put, name_puts, namespace_object};
 
 use crate::enums::{put_text, put_use};
@@ -11,8 +11,8 @@ use crate::way::Way;
 use oxt_facts::item::{Atom, Binding, Item, ItemKind};
 use oxt_facts::told::{ToldName, ToldNamespace};
 use oxt_forms::put::{put_detailed, put_lone, put_spelled};
-use oxt_tree::ids::OutOfMemory;
-use oxt_tree::name::Name;
+use oxt_names::ids::OutOfMemory;
+use oxt_names::name::Name;
 use std::alloc::Global;
 use std::vec;
 

@@ -3,7 +3,7 @@
 use oxt_facts::item::{Binding, ItemKind};
 
 /// How nodes of a kind are read.
-#[derive(Clone, Copy, PartialEq, Eq)]
+#[derive(Clone, Copy)]
 pub enum Rule {
     /// The general rule: the node's start, what its fields do, in order, and its end.
     Plain,

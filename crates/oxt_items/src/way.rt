@@ -5,7 +5,7 @@ ghost use Rattle.oxt_items.specs.Read.{takes};
 use oxt_facts::item::Binding;
 
 /// How a part of the tree is read.
-#[derive(Clone, Copy, PartialEq, Eq)]
+#[derive(Clone, Copy)]
 pub enum Way {
     /// As what it does.
     Whole,

@@ -8,7 +8,7 @@ use Rattle.json.specs.Token.{Token}
 use Rattle.serde_json.specs.Data.{Num, Data, number, array, object, Items, item, Members, no_members, put}
 use Rattle.serde_json.specs.Read.{read, of_json, of_items, of_members, number_of}
 use Rattle.oxt_tree.specs.Doc.{Doc}
-use Rattle.oxt_tree.specs.Names.{name_bytes}
+use Rattle.oxt_names.specs.Names.{name_bytes}
 use Rattle.oxt_json.specs.Data.{data_of, items_data, put_in, in_range, items_in_range, members_in_range}
 use Rattle.oxt_json.specs.Faults.{IfShape, Shows}
 use Rattle.oxt_json.specs.Misreads.{IsCause}

@@ -1,6 +1,6 @@
 -- What comes of reading a value.
 use Rattle.std.specs.Prelude.{ℕ, List, [], Option, None, Some, Result, Ok, Err}
-use Rattle.oxt_tree.specs.Pointer.{at_key}
+use Rattle.oxt_valid.specs.Pointer.{at_key}
 
 -- what was read and the next number of a node, or the place of the first wrong value: a JSON pointer from the value that is read
 abbrev pub Answer : Type 0 → Type 0

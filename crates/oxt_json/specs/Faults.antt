@@ -1,7 +1,7 @@
 -- Why bytes are no tree.
 use Rattle.std.specs.Prelude.{◌≡◌, ⊤, string_bytes}
-use Rattle.oxt_tree.specs.Names.{name_bytes}
-use Rattle.oxt_tree.specs.declared.name.Name.{Name}
+use Rattle.oxt_names.specs.Names.{name_bytes}
+use Rattle.oxt_names.specs.declared.name.Name.{Name}
 use Rattle.oxt_json.specs.declared.misread.Misread.{Misread}
 use Rattle.oxt_json.specs.declared.misread.Misread.TheVariants as misread
 use Rattle.oxt_json.specs.declared.read.ReadFault.{ReadFault}

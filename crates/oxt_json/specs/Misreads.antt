@@ -1,7 +1,7 @@
 -- Why a reader gives up.
 use Rattle.std.specs.Prelude.{◌≡◌, List, ℕ, Result, Ok, Err, ⊤, string_bytes}
 use Rattle.oxt_json.specs.Answer.{Answer}
-use Rattle.oxt_tree.specs.Pointer.{at_key}
+use Rattle.oxt_valid.specs.Pointer.{at_key}
 use Rattle.oxt_json.specs.declared.misread.Misread.{Misread}
 use Rattle.oxt_json.specs.declared.misread.Misread.TheVariants.{OutOfMemory, At}
 

@@ -20,7 +20,7 @@ use Rattle.oxt_valid.specs.Condition.{fault}
 use Rattle.oxt_tree.specs.Doc.{Doc, list, node, docs_of}
 use Rattle.oxt_tree.specs.Fields.{default_of}
 use Rattle.oxt_json.specs.Answer.{Answer, below, and_then, mapped, allowed}
-use Rattle.oxt_tree.specs.Pointer.{at_key}
+use Rattle.oxt_valid.specs.Pointer.{at_key}
 use Rattle.oxt_json.specs.Leaves.{null_doc, flag_doc, number_doc, text_doc, kind_at, offset_at}
 
 -- how a value reads: in a setting, at a place that holds this, with the next number of a node

@@ -14,7 +14,7 @@ use crate::number::whole;
 use json::Value;
 use oxt_grammar::category::Category;
 use oxt_grammar::kind::Kind;
-use oxt_tree::ids::Span;
+use oxt_names::ids::Span;
 use std::alloc::Global;
 
 /// What a node is and where it stands in the source text.

@@ -11,9 +11,9 @@ ghost use Rattle.oxt_json.specs.Reading.{missing_doc};
 
 use crate::number::whole;
 use oxt_grammar::holds::{Holds, Presence, Row};
+use oxt_names::ids::OutOfMemory;
+use oxt_names::name::Name;
 use oxt_tree::fields::default_part;
-use oxt_tree::ids::OutOfMemory;
-use oxt_tree::name::Name;
 use oxt_tree::tree::Part;
 use std::alloc::Global;
 

@@ -1,10 +1,10 @@
 //! Why a reader gives up, with a place that grows on the way out.
 ghost use Rattle.std.specs.Prelude.{◌≡◌, []};
 ghost use Rattle.std.specs.Fmt.{decimal};
-ghost use Rattle.oxt_tree.specs.Pointer.{at_key};
+ghost use Rattle.oxt_valid.specs.Pointer.{at_key};
 
-use oxt_tree::ids;
-use oxt_tree::pointer::{below, below_index};
+use oxt_names::ids;
+use oxt_valid::pointer::{below, below_index};
 use std::alloc::{AllocError, AllocFailed, Global};
 
 /// Why a value could not be read.

@@ -18,7 +18,7 @@ use json::Value;
 use oxt_grammar::category::Category;
 use oxt_grammar::context::Setting;
 use oxt_grammar::holds::{Holds, Row};
-use oxt_tree::ids::NodeIds;
+use oxt_names::ids::NodeIds;
 use oxt_tree::tree::{Node, Part};
 use oxt_valid::condition::fault;
 use std::alloc::Global;

@@ -1,7 +1,7 @@
 //! Bytes to a tree.
 ghost use Rattle.std.specs.Prelude.{◌≡◌, IfOk, IfErr, Ok, None, Some};
 ghost use Rattle.json.specs.Value.{value_view};
-ghost use Rattle.oxt_tree.specs.Names.{name_bytes};
+ghost use Rattle.oxt_names.specs.Names.{name_bytes};
 ghost use Rattle.oxt_tree.specs.View.{node_doc};
 ghost use Rattle.oxt_json.specs.Data.{data_of};
 ghost use Rattle.oxt_json.specs.Misreads.{Gives};
@@ -14,8 +14,8 @@ use crate::range::is_in_range;
 use json::{Error as JsonError, Reader, Scratch, Value};
 use oxt_grammar::category::Category;
 use oxt_grammar::context::Setting;
-use oxt_tree::ids::NodeIds;
-use oxt_tree::name::Name;
+use oxt_names::ids::NodeIds;
+use oxt_names::name::Name;
 use oxt_tree::tree::{Node, Program};
 use simdutf8::compat::from_utf8;
 use std::alloc::Global;

@@ -1,7 +1,7 @@
 //! What stands in the object of a node.
 
 /// A member of the object of a node.
-#[derive(Clone, Copy, PartialEq, Eq)]
+#[derive(Clone, Copy)]
 pub enum Slot {
     /// The kind.
     Type,

@@ -20,7 +20,7 @@ use crate::slot::Slot;
 use json::Writer;
 use oxt_grammar::holds::Row;
 use oxt_grammar::kind::Kind;
-use oxt_tree::ids::{OutOfMemory, Span};
+use oxt_names::ids::{OutOfMemory, Span};
 use oxt_tree::tree::{Node, Part, Program};
 use std::alloc::Global;
 

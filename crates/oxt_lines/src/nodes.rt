@@ -4,8 +4,8 @@ use crate::stopped::Stopped;
 use oxt_grammar::field::Field;
 use oxt_grammar::kind::Kind;
 use oxt_json::read_tree;
-use oxt_tree::ids::{NodeId, Span};
-use oxt_tree::name::Name;
+use oxt_names::ids::{NodeId, Span};
+use oxt_names::name::Name;
 use oxt_tree::tree::{Node, Part, Program};
 use std::alloc::Global;
 

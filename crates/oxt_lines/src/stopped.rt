@@ -1,7 +1,7 @@
 //! Why the calls are not all made.
 
+use oxt_names::ids::OutOfMemory;
 use oxt_stores::refused::Refused;
-use oxt_tree::ids::OutOfMemory;
 use std::alloc::{AllocError, AllocFailed};
 use std::error::Error;
 use std::fmt;

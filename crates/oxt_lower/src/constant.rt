@@ -1,10 +1,10 @@
 //! The constants of members as they are written.
 ghost use Rattle.std.specs.Prelude.{◌≡◌};
-ghost use Rattle.oxt_names.specs.Integer.{is_negative};
+ghost use Rattle.oxt_names.specs.Constant.{is_negative};
 
 use oxt_ctx::nodes::{negative, number_literal, string_literal};
 use oxt_names::constant::ConstantValue;
-use oxt_tree::ids::{NodeIds, OutOfMemory};
+use oxt_names::ids::{NodeIds, OutOfMemory};
 use oxt_tree::tree::Node;
 use std::alloc::Global;
 

@@ -5,10 +5,9 @@ use crate::syntax::any_call;
 use oxt_ctx::context::TraverseCtx;
 use oxt_declares::names::{field_within, list_within};
 use oxt_grammar::field::Field;
-use oxt_names::ids::{ScopeId, SymbolId};
+use oxt_names::ids::{NodeId, OutOfMemory, ScopeId, SymbolId};
+use oxt_names::name::Name;
 use oxt_scoping::scoping::Scoping;
-use oxt_tree::ids::{NodeId, OutOfMemory};
-use oxt_tree::name::Name;
 use oxt_tree::tree::{Node, Part};
 use std::alloc::Global;
 

@@ -4,7 +4,7 @@ ghost use Rattle.oxt_lower.specs.Context.{but_table_of};
 
 use crate::constant::constant_literal;
 use oxt_ctx::context::TraverseCtx;
-use oxt_tree::ids::OutOfMemory;
+use oxt_names::ids::OutOfMemory;
 use oxt_tree::tree::Node;
 
 /// Puts in the place of an expression that the plan inlines the literal of its constant, and in the place

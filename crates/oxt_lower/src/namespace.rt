@@ -29,11 +29,11 @@ use crate::namespace_block::{exports_block, is_block, lower_alone, lower_exporte
 use crate::namespace_list::{flatten, replace_by};
 use oxt_ctx::context::TraverseCtx;
 use oxt_grammar::field::Field;
+use oxt_names::ids::OutOfMemory;
 use oxt_options::TypeScriptOptions;
 use oxt_traverse::hook::Hook;
 use oxt_traverse::pass::Pass;
 use oxt_tree::fields::place_of;
-use oxt_tree::ids::OutOfMemory;
 use oxt_tree::tree::{Node, Part};
 
 /// The pass that puts in the place of each block of a namespace the call of a function that puts what the

@@ -11,9 +11,9 @@ use oxt_ctx::context::TraverseCtx;
 use oxt_declares::dropped::is_dropped;
 use oxt_grammar::field::Field;
 use oxt_grammar::kind::Kind;
+use oxt_names::ids::{NodeIds, OutOfMemory};
 use oxt_stores::bound::BoundIdentifier;
 use oxt_tree::fields::place_of;
-use oxt_tree::ids::{NodeIds, OutOfMemory};
 use oxt_tree::tree::{Node, Part};
 use std::alloc::Global;
 

@@ -1,6 +1,6 @@
 //! Statements of which each may become several.
 
-use oxt_tree::ids::OutOfMemory;
+use oxt_names::ids::OutOfMemory;
 use oxt_tree::tree::Part;
 use std::mem;
 

@@ -11,9 +11,9 @@ use oxt_ctx::nodes::{
     assignment, computed, number_literal, returned, statement, string_literal, sum,
 };
 use oxt_names::constant::ConstantValue;
+use oxt_names::ids::OutOfMemory;
+use oxt_names::name::Name;
 use oxt_stores::bound::BoundIdentifier;
-use oxt_tree::ids::OutOfMemory;
-use oxt_tree::name::Name;
 use oxt_tree::tree::{Node, Part};
 use std::alloc::Global;
 

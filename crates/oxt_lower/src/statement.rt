@@ -8,8 +8,8 @@ use crate::block::lower_block;
 use oxt_ctx::context::TraverseCtx;
 use oxt_declares::dropped::is_dropped;
 use oxt_grammar::kind::Kind;
+use oxt_names::ids::OutOfMemory;
 use oxt_options::plan::Plan;
-use oxt_tree::ids::OutOfMemory;
 use oxt_tree::tree::{Node, Part};
 use std::vec;
 

@@ -3,11 +3,11 @@ use Rattle.std.proofs.Common.{◌≡◌, ◌∙◌, sym, ap, ℕ, ◌+◌, ◌<�
 use Rattle.std.proofs.lemmas.List.{map-append}
 use Rattle.std.specs.Option.{option_or}
 use Rattle.oxt_metadata.specs.DottedNames.{node_among, node_numbered}
-use Rattle.oxt_tree.proofs.Lists.{drop_at, drop_end}
+use Rattle.oxt_names.proofs.Lists.{drop_at, drop_end}
 use Rattle.oxt_tree.specs.Doc.{Doc}
-use Rattle.oxt_tree.specs.Names.{name_bytes}
+use Rattle.oxt_names.specs.Names.{name_bytes}
 use Rattle.oxt_tree.specs.View.{docs_in, part_doc}
-use Rattle.oxt_tree.specs.declared.name.Name.{Name}
+use Rattle.oxt_names.specs.declared.name.Name.{Name}
 use Rattle.oxt_tree.specs.declared.tree.Part.{Part}
 
 -- ---- names

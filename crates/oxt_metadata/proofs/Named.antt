@@ -7,8 +7,8 @@ use Rattle.oxt_names.specs.declared.ids.SymbolId.{SymbolId}
 use Rattle.oxt_options.specs.Lists.{pairs_in, types_in}
 use Rattle.oxt_options.specs.declared.metadata.MetadataType.{MetadataType}
 use Rattle.oxt_scoping.specs.Scoped.{Scoped}
-use Rattle.oxt_tree.proofs.Lists.{drop_at, drop_end}
-use Rattle.oxt_tree.specs.declared.ids.NodeId.{NodeId}
+use Rattle.oxt_names.proofs.Lists.{drop_at, drop_end}
+use Rattle.oxt_names.specs.declared.ids.NodeId.{NodeId}
 
 -- ---- symbols
 

@@ -13,7 +13,7 @@ use Rattle.oxt_metadata.specs.declared.shape.Shape.{Shape}
 use Rattle.oxt_metadata.specs.declared.shapes.EnumShapes.{EnumShapes}
 use Rattle.oxt_options.proofs.Inserts.{inserted}
 use Rattle.oxt_scoping.specs.Scoped.{Scoped}
-use Rattle.oxt_tree.proofs.Lists.{drop_end}
+use Rattle.oxt_names.proofs.Lists.{drop_end}
 use Rattle.oxt_tree.specs.Doc.{Doc}
 
 -- ---- what events say depends on what each block has

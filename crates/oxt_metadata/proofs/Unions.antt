@@ -4,7 +4,7 @@ use Rattle.oxt_metadata.specs.Sights.{Seeing}
 use Rattle.oxt_metadata.specs.Types.{joined_among, joined_in}
 use Rattle.oxt_metadata.specs.declared.form.Join.{Join}
 use Rattle.oxt_metadata.specs.declared.join.Joined.{Joined}
-use Rattle.oxt_tree.proofs.Lists.{drop_at, drop_end}
+use Rattle.oxt_names.proofs.Lists.{drop_at, drop_end}
 use Rattle.oxt_tree.specs.View.{docs_in, part_doc}
 use Rattle.oxt_tree.specs.declared.tree.Part.{Part}
 

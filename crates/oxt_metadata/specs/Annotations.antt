@@ -13,7 +13,7 @@ use Rattle.oxt_scoping.specs.Scoped.{Scoped}
 use Rattle.oxt_search.specs.All.{all_in}
 use Rattle.oxt_search.specs.Sought.{Sought}
 use Rattle.oxt_tree.specs.Doc.{Doc, node, Docs}
-use Rattle.oxt_tree.specs.declared.ids.NodeId.{NodeId}
+use Rattle.oxt_names.specs.declared.ids.NodeId.{NodeId}
 
 -- an annotation of that number, of which the metadata of that class tells
 abbrev pub written_at : Seeing → NodeId → Kind → ℕ → Docs → Annotation

@@ -13,7 +13,7 @@ use Rattle.oxt_search.specs.declared.search.Inside.{Inside}
 use Rattle.oxt_search.specs.declared.search.Inside.TheVariants as inside
 use Rattle.oxt_tree.specs.Doc.{Doc, node, Docs}
 use Rattle.oxt_tree.specs.Fields.{field_of, is_text}
-use Rattle.oxt_tree.specs.declared.ids.NodeId.{NodeId}
+use Rattle.oxt_names.specs.declared.ids.NodeId.{NodeId}
 use Rattle.oxt_declares.specs.Dropped.{inside_dropped_by, is_declared_field, is_dropped_by}
 
 -- ---- nodes

@@ -7,7 +7,7 @@ use Rattle.oxt_names.specs.declared.ids.SymbolId.{SymbolId}
 use Rattle.oxt_options.specs.declared.metadata.MetadataType.{MetadataType}
 use Rattle.oxt_options.specs.declared.metadata.MetadataType.TheVariants as metadata_type
 use Rattle.oxt_scoping.specs.Scoped.{Scoped}
-use Rattle.oxt_tree.specs.declared.ids.NodeId.{NodeId}
+use Rattle.oxt_names.specs.declared.ids.NodeId.{NodeId}
 
 -- the numbers of symbols
 abbrev pub numbers_in : List SymbolId → List ℕ

@@ -24,12 +24,12 @@ use crate::site::{Site, field_site, inside_site};
 use crate::types::type_of;
 use oxt_grammar::holds::Row;
 use oxt_grammar::kind::Kind;
+use oxt_names::ids::{NodeId, OutOfMemory};
 use oxt_options::metadata::MetadataType;
 use oxt_options::options::DecoratorOptions;
 use oxt_scoping::scoping::Scoping;
 use oxt_search::all::all_in;
 use oxt_search::search::{Inside, Search, Visit};
-use oxt_tree::ids::{NodeId, OutOfMemory};
 use oxt_tree::tree::Node;
 use std::alloc::Global;
 

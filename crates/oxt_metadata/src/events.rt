@@ -11,11 +11,10 @@ use oxt_declares::dropped::{is_declared_field, is_dropped};
 use oxt_grammar::field::Field;
 use oxt_grammar::holds::Row;
 use oxt_grammar::kind::Kind;
-use oxt_names::ids::SymbolId;
+use oxt_names::ids::{NodeId, OutOfMemory, SymbolId};
 use oxt_scoping::scoping::Scoping;
 use oxt_search::all::all_in;
 use oxt_search::search::{Inside, Search, Visit};
-use oxt_tree::ids::{NodeId, OutOfMemory};
 use oxt_tree::tree::{Node, Part};
 use std::alloc::Global;
 
@@ -29,7 +28,7 @@ pub enum Event {
 }
 
 /// What stands around a node.
-#[derive(Clone, Copy, PartialEq, Eq)]
+#[derive(Clone, Copy)]
 pub enum Around {
     /// Code.
     Code,

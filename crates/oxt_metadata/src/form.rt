@@ -9,7 +9,7 @@ use oxt_options::metadata::{GlobalName, MetadataType};
 use oxt_tree::tree::{Node, Part};
 
 /// What the members of a type are joined to.
-#[derive(Clone, Copy, PartialEq, Eq)]
+#[derive(Clone, Copy)]
 pub(crate) enum Join {
     /// A union.
     Union,
@@ -18,7 +18,7 @@ pub(crate) enum Join {
 }
 
 /// How metadata writes a type.
-#[derive(Clone, Copy, PartialEq, Eq)]
+#[derive(Clone, Copy)]
 pub(crate) enum Form {
     /// By itself.
     Written(MetadataType),

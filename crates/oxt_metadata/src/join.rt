@@ -9,7 +9,7 @@ use oxt_options::metadata::{GlobalName, MetadataType};
 use oxt_tree::tree::{Node, Part};
 
 /// What the members so far are written as.
-#[derive(Clone, Copy, PartialEq, Eq)]
+#[derive(Clone, Copy)]
 pub(crate) enum Joined {
     /// None of them counted.
     Nothing,
@@ -20,7 +20,7 @@ pub(crate) enum Joined {
 }
 
 /// What a member does to the whole type.
-#[derive(Clone, Copy, PartialEq, Eq)]
+#[derive(Clone, Copy)]
 pub(crate) enum Effect {
     /// Nothing.
     Passed,

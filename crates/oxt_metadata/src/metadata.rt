@@ -7,10 +7,10 @@ ghost use Rattle.oxt_tree.specs.View.{node_doc};
 
 use crate::annotations::{Annotation, annotations_of, types_of, written_names};
 use crate::symbols::NamedSymbols;
+use oxt_names::ids::{NodeId, OutOfMemory};
 use oxt_options::metadata::MetadataType;
 use oxt_options::options::DecoratorOptions;
 use oxt_scoping::scoping::Scoping;
-use oxt_tree::ids::{NodeId, OutOfMemory};
 use oxt_tree::tree::Node;
 use std::alloc::Global;
 use std::marker::Model;

@@ -1,13 +1,13 @@
 //! Dotted names.
 ghost use Rattle.std.specs.Prelude.{◌≡◌, ◌++◌, IfOk, OnOk, map, option_map};
 ghost use Rattle.oxt_metadata.specs.DottedNames.{first_path, first_root, node_among, node_numbered, path, right_name, root, text_of};
-ghost use Rattle.oxt_tree.specs.Names.{name_bytes};
+ghost use Rattle.oxt_names.specs.Names.{name_bytes};
 ghost use Rattle.oxt_tree.specs.View.{docs_in, node_doc, part_doc};
 
 use oxt_grammar::field::Field;
 use oxt_grammar::kind::Kind;
-use oxt_tree::ids::{NodeId, OutOfMemory};
-use oxt_tree::name::Name;
+use oxt_names::ids::{NodeId, OutOfMemory};
+use oxt_names::name::Name;
 use oxt_tree::tree::{Node, Part};
 use std::alloc::Global;
 

@@ -9,7 +9,7 @@ use oxt_options::metadata::GlobalName;
 use oxt_tree::tree::{Node, Part};
 
 /// What the values of some members have in common.
-#[derive(Clone, Copy, PartialEq, Eq)]
+#[derive(Clone, Copy)]
 pub enum Shape {
     /// There are no members.
     Undecided,

@@ -9,9 +9,8 @@ ghost use Rattle.oxt_tree.specs.View.{node_doc};
 use crate::events::{Event, events_of};
 use crate::shape::Shape;
 use indexmap::IndexMap;
-use oxt_names::ids::SymbolId;
+use oxt_names::ids::{NodeId, OutOfMemory, SymbolId};
 use oxt_scoping::scoping::Scoping;
-use oxt_tree::ids::{NodeId, OutOfMemory};
 use oxt_tree::tree::Node;
 use std::alloc::Global;
 

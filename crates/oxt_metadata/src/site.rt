@@ -11,12 +11,12 @@ use oxt_decorated::class::is_constructor;
 use oxt_grammar::field::Field;
 use oxt_grammar::holds::Row;
 use oxt_grammar::kind::Kind;
+use oxt_names::ids::NodeId;
 use oxt_search::search::Inside;
-use oxt_tree::ids::NodeId;
 use oxt_tree::tree::Node;
 
 /// Where a node stands. The number is that of the class whose metadata is looked at.
-#[derive(Clone, Copy, PartialEq, Eq)]
+#[derive(Clone, Copy)]
 pub enum Site {
     /// In other code.
     Code,

@@ -6,7 +6,7 @@ use Rattle.std.specs.List.{list_any}
 use Rattle.oxt_modules.proofs.Loops.{one_more}
 use Rattle.oxt_options.specs.Facts.{is_in}
 use Rattle.oxt_options.specs.Lists.{numbers_in}
-use Rattle.oxt_tree.specs.declared.ids.NodeId.{NodeId}
+use Rattle.oxt_names.specs.declared.ids.NodeId.{NodeId}
 
 same_test : (k n : ℕ) → nat_eq k n ≡ nat_eq n k
 same_test k n = grind arith

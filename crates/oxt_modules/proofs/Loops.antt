@@ -8,9 +8,9 @@ use Rattle.oxt_modules.specs.declared.kept.Place.{Place}
 use Rattle.oxt_options.specs.Options.{TypeScriptData}
 use Rattle.oxt_options.specs.Lists.{numbers_in}
 use Rattle.oxt_scoping.specs.Scoped.{Scoped}
-use Rattle.oxt_tree.proofs.Lists.{drop_at, drop_end}
+use Rattle.oxt_names.proofs.Lists.{drop_at, drop_end}
 use Rattle.oxt_tree.specs.View.{docs_in, part_doc}
-use Rattle.oxt_tree.specs.declared.ids.NodeId.{NodeId}
+use Rattle.oxt_names.specs.declared.ids.NodeId.{NodeId}
 use Rattle.oxt_tree.specs.declared.tree.Part.{Part}
 
 -- a number more

@@ -14,7 +14,7 @@ use Rattle.oxt_names.specs.declared.ids.SymbolId.{SymbolId}
 use Rattle.oxt_scoping.specs.Entries.{SymbolData}
 use Rattle.oxt_scoping.specs.declared.entry.Redeclaration.{Redeclaration}
 use Rattle.oxt_scoping.specs.declared.entry.Slot.{Slot}
-use Rattle.oxt_tree.specs.declared.ids.NodeId.{NodeId}
+use Rattle.oxt_names.specs.declared.ids.NodeId.{NodeId}
 
 -- ---- the first declaration that is a value, and another
 

@@ -9,15 +9,15 @@ ghost use Rattle.oxt_tree.specs.View.{docs_in, node_doc};
 use oxt_declares::dropped::{inside_dropped, is_dropped};
 use oxt_grammar::holds::Row;
 use oxt_grammar::kind::Kind;
+use oxt_names::ids::OutOfMemory;
 use oxt_options::TypeScriptOptions;
 use oxt_search::all::all_in;
 use oxt_search::search::{Inside, Search, Visit};
-use oxt_tree::ids::OutOfMemory;
 use oxt_tree::tree::Node;
 use std::alloc::Global;
 
 /// What a program has of JSX outside erased code.
-#[derive(Clone, Copy, PartialEq, Eq)]
+#[derive(Clone, Copy)]
 pub struct JsxUse {
     /// An element.
     pub has_element: bool,
@@ -26,7 +26,7 @@ pub struct JsxUse {
 }
 
 /// A node by which JSX uses a name.
-#[derive(Clone, Copy, PartialEq, Eq)]
+#[derive(Clone, Copy)]
 pub enum JsxNode {
     /// An element.
     Element,

@@ -18,14 +18,14 @@ use crate::symbols::Symbols;
 use oxt_grammar::field::Field;
 use oxt_grammar::kind::Kind;
 use oxt_metadata::symbols::NamedSymbols;
+use oxt_names::ids::{NodeId, OutOfMemory};
 use oxt_options::TypeScriptOptions;
 use oxt_scoping::scoping::Scoping;
-use oxt_tree::ids::{NodeId, OutOfMemory};
 use oxt_tree::tree::{Node, Part};
 use std::alloc::Global;
 
 /// Where a list of specifiers stands.
-#[derive(Clone, Copy, PartialEq, Eq)]
+#[derive(Clone, Copy)]
 pub enum Place {
     /// In an import.
     Import,

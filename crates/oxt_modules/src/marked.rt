@@ -12,12 +12,11 @@ use indexmap::IndexMap;
 use oxt_grammar::field::Field;
 use oxt_grammar::holds::Row;
 use oxt_grammar::kind::Kind;
-use oxt_names::ids::{ReferenceId, SymbolId};
+use oxt_names::ids::{NodeId, OutOfMemory, ReferenceId, SymbolId};
 use oxt_options::TypeScriptOptions;
 use oxt_scoping::scoping::Scoping;
 use oxt_search::first::first_in;
 use oxt_search::search::{Inside, Search, Visit};
-use oxt_tree::ids::{NodeId, OutOfMemory};
 use oxt_tree::tree::{Node, Part};
 use std::alloc::Global;
 

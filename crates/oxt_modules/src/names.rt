@@ -4,7 +4,7 @@ ghost use Rattle.oxt_modules.specs.Names.{declared_symbol, is_declared_again, is
 ghost use Rattle.oxt_modules.specs.Symbols.{IsAnswered, asked, table_of};
 
 use crate::symbols::{SymbolAnswers, Symbols};
-use oxt_tree::ids::NodeId;
+use oxt_names::ids::NodeId;
 
 /// What is asked of the symbol that the node declares; nothing where it declares none.
 fn declared_by(symbols: &Symbols, node: NodeId) -> Option<SymbolAnswers>

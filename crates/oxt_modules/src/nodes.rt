@@ -4,7 +4,7 @@ ghost use Rattle.oxt_options.specs.Facts.{is_in};
 ghost use Rattle.oxt_options.specs.Lists.{numbers_in};
 
 use indexmap::IndexSet;
-use oxt_tree::ids::{NodeId, OutOfMemory};
+use oxt_names::ids::{NodeId, OutOfMemory};
 use std::alloc::Global;
 use std::marker::Model;
 

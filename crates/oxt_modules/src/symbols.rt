@@ -8,14 +8,13 @@ ghost use Rattle.oxt_modules.specs.Symbols.{IsAnswered, all_asked, asked, declar
 use crate::nodes::NodeList;
 use bitflags::Flags;
 use oxt_names::flags::ReferenceFlags;
-use oxt_names::ids::{ReferenceId, SymbolId};
+use oxt_names::ids::{NodeId, OutOfMemory, ReferenceId, SymbolId};
 use oxt_scoping::entry::{Redeclaration, Reference};
 use oxt_scoping::scoping::Scoping;
-use oxt_tree::ids::{NodeId, OutOfMemory};
 use std::alloc::Global;
 
 /// What is asked of a symbol.
-#[derive(Clone, Copy, PartialEq, Eq)]
+#[derive(Clone, Copy)]
 pub struct SymbolAnswers {
     /// The node of the first of its declarations that is more than a type.
     pub first_value: Option<NodeId>,

@@ -1,6 +1,5 @@
-pub mod Additions
+pub mod Appended
 pub mod Candidates
-pub mod Powers
-pub mod Signs
+pub mod Lists
 pub mod Tables
 pub mod Trims

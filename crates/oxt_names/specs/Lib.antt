@@ -1,7 +1,7 @@
 pub mod Constant
 pub mod Flags
-pub mod Integer
+pub mod Line
 pub mod Made
 pub mod Names
-pub mod Operators
+pub mod Texts
 pub mod Tried

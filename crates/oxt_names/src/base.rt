@@ -3,7 +3,7 @@ ghost use Rattle.std.specs.Prelude.{◌≡◌, ◌++◌, ◌<◌, IfOk, MatchOpt
 ghost use Rattle.std.specs.Fmt.{decimal};
 ghost use Rattle.oxt_names.specs.Made.{base_of, is_digit, without_digits, without_underscores};
 
-use oxt_tree::ids::OutOfMemory;
+use crate::ids::OutOfMemory;
 use std::alloc::Global;
 
 /// An underscore and the text without the underscores at its front and the digits at its end.

@@ -1,13 +1,13 @@
-//! What names are made of: symbols, scopes and references by their numbers, with their flags; the constants of enum
-//! members, with JavaScript's operators; and made names, which no name of a source is.
+//! What stands below the tree and needs none: numbers of nodes, symbols, scopes and references, with their flags; shared texts;
+//! the constants of enum members; made names, which no name of a source is; and diagnostics, with their lines.
 #![tactic(auto)]
 
 pub mod base;
 pub mod constant;
+pub mod diagnostic;
 pub mod flags;
 pub mod ids;
-pub mod integer;
-pub mod names;
-pub mod operator;
+pub mod lines;
+pub mod name;
 pub mod table;
 pub mod uid;

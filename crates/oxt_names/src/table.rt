@@ -1,13 +1,13 @@
 //! The table of taken names: each with the next number to try behind it.
 ghost use Rattle.std.specs.Prelude.{◌≡◌, ◌++◌, ◌∷◌, [], IfOk, OnErr, OnOk, false, length, string_bytes, true, MatchOption};
-ghost use Rattle.oxt_tree.specs.Names.{name_bytes};
+ghost use Rattle.oxt_names.specs.Names.{name_bytes};
 ghost use Rattle.oxt_names.specs.Made.{added, first_free, is_among};
 ghost use Rattle.oxt_names.specs.Tried.{FirstFree, IsTried, TriedBelow, spellings};
 
 use crate::base::numbered;
+use crate::ids::OutOfMemory;
+use crate::name::Name;
 use indexmap::IndexMap;
-use oxt_tree::ids::OutOfMemory;
-use oxt_tree::name::Name;
 use std::alloc::Global;
 
 /// The taken names.

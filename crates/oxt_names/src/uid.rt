@@ -1,17 +1,13 @@
 //! Names that are made.
 ghost use Rattle.std.specs.Prelude.{◌≡◌, ◌++◌, ◌∷◌, [], IfOk, OnErr, OnOk, false};
-ghost use Rattle.oxt_tree.specs.Names.{name_bytes};
-ghost use Rattle.oxt_tree.specs.View.{node_doc};
-ghost use Rattle.oxt_names.specs.Made.{added, all_added, is_among, made_name};
-ghost use Rattle.oxt_names.specs.Names.{names};
+ghost use Rattle.oxt_names.specs.Names.{name_bytes};
+ghost use Rattle.oxt_names.specs.Made.{added, is_among, made_name};
 
 use crate::base::base_of;
-use crate::names::add_names;
+use crate::ids::OutOfMemory;
+use crate::name::Name;
 use crate::table::{self, Table};
 use indexmap::IndexMap;
-use oxt_tree::ids::OutOfMemory;
-use oxt_tree::name::Name;
-use oxt_tree::tree::Node;
 use std::alloc::Global;
 use std::marker::Model;
 
@@ -42,15 +38,6 @@ impl UidNames {
             alloc,
             table: IndexMap::new(alloc),
         }
-    }
-
-    /// The names of the bindings and references of a tree, also in code that is erased.
-    pub fn of_tree(alloc: Global, source: &Node) -> Result<UidNames, OutOfMemory>
-        ensures { IfOk result (λ taken. taken ≡ all_added (names (node_doc source.now)) []) }
-    {
-        let mut table = IndexMap::new(alloc);
-        add_names(alloc, &mut table, source)?;
-        Ok(UidNames { alloc, table })
     }
 
     /// Whether the name is taken.

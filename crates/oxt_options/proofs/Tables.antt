@@ -12,8 +12,8 @@ use Rattle.oxt_options.specs.Seen.{constants_of}
 use Rattle.oxt_names.specs.Constant.{Constant, constant_view}
 use Rattle.oxt_names.specs.declared.constant.ConstantValue.{ConstantValue}
 use Rattle.oxt_options.specs.declared.metadata.MetadataType.{MetadataType}
-use Rattle.oxt_tree.proofs.Lists.{drop_end}
-use Rattle.oxt_tree.specs.declared.ids.NodeId.{NodeId}
+use Rattle.oxt_names.proofs.Lists.{drop_end}
+use Rattle.oxt_names.specs.declared.ids.NodeId.{NodeId}
 
 -- a look-up among views is the view of the look-up
 pub constant_found : (es : List (ℕ × ConstantValue)) (n : ℕ) → option_map constant_view (lookup (nat_eq n) es) ≡ constant_at (constants_of es) n

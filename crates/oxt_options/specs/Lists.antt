@@ -5,7 +5,7 @@ use Rattle.oxt_options.specs.declared.lists.PlanLists.{PlanLists}
 use Rattle.oxt_options.specs.declared.metadata.MetadataType.{MetadataType}
 use Rattle.oxt_names.specs.Constant.{Constant, constant_view}
 use Rattle.oxt_names.specs.declared.constant.ConstantValue.{ConstantValue}
-use Rattle.oxt_tree.specs.declared.ids.NodeId.{NodeId}
+use Rattle.oxt_names.specs.declared.ids.NodeId.{NodeId}
 
 -- the numbers of the nodes
 abbrev pub numbers_in : List NodeId → List ℕ

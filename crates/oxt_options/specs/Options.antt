@@ -7,7 +7,7 @@ use Rattle.oxt_options.specs.declared.options.TransformOptions.{TransformOptions
 use Rattle.oxt_options.specs.declared.options.TypeScriptOptions.{TypeScriptOptions}
 use Rattle.oxt_options.specs.declared.rewrite.RewriteExtensionsMode.{RewriteExtensionsMode}
 use Rattle.oxt_options.specs.declared.state.TransformState.{TransformState}
-use Rattle.oxt_tree.specs.Names.{name_bytes}
+use Rattle.oxt_names.specs.Names.{name_bytes}
 
 -- how TypeScript is lowered, with names as their texts
 pub record TypeScriptData : Type 0 where

@@ -5,7 +5,7 @@ ghost use Rattle.oxt_options.specs.Lists.{facts_in};
 
 use crate::metadata::MetadataType;
 use oxt_names::constant::ConstantValue;
-use oxt_tree::ids::NodeId;
+use oxt_names::ids::NodeId;
 use std::alloc::Global;
 
 /// The lists of which a plan is made, in any order.

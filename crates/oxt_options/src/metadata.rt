@@ -2,7 +2,7 @@
 ghost use Rattle.std.specs.Prelude.{◌≡◌};
 ghost use Rattle.oxt_options.specs.Metadata.{text_of_global};
 
-use oxt_tree::ids::NodeId;
+use oxt_names::ids::NodeId;
 
 /// A name that metadata has of its own, which is free.
 #[derive(Clone, Copy, PartialEq, Eq)]

@@ -4,8 +4,8 @@ ghost use Rattle.oxt_options.specs.Metadata.{emits_metadata};
 ghost use Rattle.oxt_options.specs.Options.{decorator_defaults, transform_defaults, transform_view, typescript_defaults, typescript_view};
 
 use crate::rewrite::RewriteExtensionsMode;
-use oxt_tree::ids::OutOfMemory;
-use oxt_tree::name::Name;
+use oxt_names::ids::OutOfMemory;
+use oxt_names::name::Name;
 use std::alloc::Global;
 
 /// The module system that the lowered program is written for.

@@ -11,7 +11,7 @@ use crate::lists::PlanLists;
 use crate::metadata::MetadataType;
 use indexmap::{IndexMap, IndexSet};
 use oxt_names::constant::ConstantValue;
-use oxt_tree::ids::{NodeId, OutOfMemory};
+use oxt_names::ids::{NodeId, OutOfMemory};
 use std::alloc::Global;
 use std::marker::Model;
 use std::mem;

@@ -4,7 +4,7 @@ use Rattle.oxt_resolve.specs.Resolved.{all_used, with_used}
 use Rattle.oxt_scopes.specs.OwnedViews.{owned_view, owned_views}
 use Rattle.oxt_scopes.specs.declared.owners.OwnedName.{OwnedName}
 use Rattle.oxt_scoping.specs.Scoped.{Scoped}
-use Rattle.oxt_tree.proofs.Lists.{drop_at, drop_end}
+use Rattle.oxt_names.proofs.Lists.{drop_at, drop_end}
 
 -- one more is done
 pub fold_next : {A B S : Type 0} (f : S → B → S) (v : A → B) (xs : List A) (i : ℕ) (x : A) (whole s t : S) → i < length xs → x ≡ get_or xs i x

@@ -14,7 +14,7 @@ use Rattle.oxt_resolve.specs.declared.spellings.Spellings.{Spellings}
 use Rattle.oxt_names.specs.declared.flags.ScopeFlags.{ScopeFlags}
 use Rattle.std.proofs.lemmas.Bool.{eqb-true, eq-eqb}
 use Rattle.oxt_scopes.proofs.Tables.{look_insert}
-use Rattle.oxt_tree.proofs.Lists.{drop_at, drop_end}
+use Rattle.oxt_names.proofs.Lists.{drop_at, drop_end}
 
 -- ---- tables by numbers
 

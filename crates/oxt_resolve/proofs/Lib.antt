@@ -1,3 +1,4 @@
+pub mod Additions
 pub mod Alike
 pub mod Enumless
 pub mod Folds

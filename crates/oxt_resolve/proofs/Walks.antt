@@ -5,7 +5,7 @@ use Rattle.oxt_resolve.specs.Marks.{Mark, each_marks, mark_view, mark_views, mar
 use Rattle.oxt_resolve.specs.Spellings.{Spelled, each_spellings, spelling_view, spelling_views, spellings}
 use Rattle.oxt_resolve.specs.declared.marks.Mark.{Mark as Marked}
 use Rattle.oxt_resolve.specs.declared.spellings.Spelling.{Spelling}
-use Rattle.oxt_tree.proofs.Lists.{drop_at, drop_end}
+use Rattle.oxt_names.proofs.Lists.{drop_at, drop_end}
 use Rattle.oxt_tree.specs.View.{docs_in, part_doc}
 use Rattle.oxt_tree.specs.declared.tree.Part.{Part}
 

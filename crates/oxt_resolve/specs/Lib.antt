@@ -3,6 +3,7 @@ pub mod Flags
 pub mod Gathered
 pub mod Laws
 pub mod Marks
+pub mod Names
 pub mod Resolved
 pub mod Spellings
 pub mod Values

@@ -4,7 +4,7 @@ use Rattle.std.specs.Map.{lookup}
 use Rattle.indexmap.specs.IndexMap.{insert_entry}
 use Rattle.oxt_tree.specs.Doc.{Doc}
 use Rattle.oxt_names.specs.Made.{all_added}
-use Rattle.oxt_names.specs.Names.{names}
+use Rattle.oxt_resolve.specs.Names.{names}
 use Rattle.oxt_declares.specs.Declarations.{Declared}
 use Rattle.oxt_declares.specs.declared.declaration.Sort.{Sort}
 use Rattle.oxt_declares.specs.declared.declaration.Sort.TheVariants as sort

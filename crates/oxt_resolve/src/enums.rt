@@ -14,10 +14,9 @@ use crate::opening::scope_of_number;
 use oxt_declares::declaration::{Declaration, Sort};
 use oxt_enums::enums::EnumConstants;
 use oxt_names::constant::ConstantValue;
-use oxt_names::ids::SymbolId;
+use oxt_names::ids::{NodeId, OutOfMemory, SymbolId};
 use oxt_scopes::scopes::OpenedScope;
 use oxt_scoping::scoping::Scoping;
-use oxt_tree::ids::{NodeId, OutOfMemory};
 use oxt_tree::tree::Part;
 
 /// What a declaration is to an enum.

@@ -7,7 +7,7 @@ ghost use Rattle.oxt_resolve.specs.Spellings.{each_spellings, spelling_views, sp
 
 use crate::marks::{Mark, push_own_marks};
 use crate::spellings::{Spelling, push_own_spelling};
-use oxt_tree::ids::OutOfMemory;
+use oxt_names::ids::OutOfMemory;
 use oxt_tree::tree::{Node, Part};
 use std::alloc::Global;
 

@@ -6,6 +6,7 @@ mod flags;
 mod gathered;
 pub mod laws;
 mod marks;
+pub mod names;
 mod opening;
 pub mod resolve;
 mod spellings;

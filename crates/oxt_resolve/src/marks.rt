@@ -15,7 +15,7 @@ use oxt_declares::role_of::role_of;
 use oxt_grammar::field::Field;
 use oxt_grammar::kind::Kind;
 use oxt_names::flags::ScopeFlags;
-use oxt_tree::ids::{NodeId, OutOfMemory};
+use oxt_names::ids::{NodeId, OutOfMemory};
 use oxt_tree::tree::{Node, Part};
 use std::alloc::Global;
 

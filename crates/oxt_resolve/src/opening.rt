@@ -9,12 +9,11 @@ ghost use Rattle.oxt_resolve.specs.Resolved.{all_opened, flags_at, flags_within,
 
 use crate::flags::{both, inherited, role_flags};
 use crate::marks::Marks;
+use crate::names::taken_names;
 use oxt_names::flags::ScopeFlags;
-use oxt_names::ids::ScopeId;
-use oxt_names::uid::UidNames;
+use oxt_names::ids::{NodeId, OutOfMemory, ScopeId};
 use oxt_scopes::scopes::OpenedScope;
 use oxt_scoping::scoping::Scoping;
-use oxt_tree::ids::{NodeId, OutOfMemory};
 use oxt_tree::tree::Node;
 use std::alloc::Global;
 
@@ -22,7 +21,7 @@ use std::alloc::Global;
 pub fn root_of(alloc: Global, program: &Node, marks: &Marks) -> Result<Scoping, OutOfMemory>
     ensures { IfOk result (λ table. table ≡ root_of (flags_in marks.now) (node_doc program.now)) }
 {
-    let names = UidNames::of_tree(alloc, program)?;
+    let names = taken_names(alloc, program)?;
     let flags = both(ScopeFlags::Top, marks.flags_of(program.id));
     Scoping::of_program(alloc, flags, program.id, names)
 }

@@ -15,11 +15,11 @@ use crate::spellings::{Spelling, Spellings};
 use crate::symbols::declare_all;
 use crate::uses::refer_all;
 use oxt_enums::enums::EnumConstants;
+use oxt_names::ids::OutOfMemory;
 use oxt_scopes::owners::OwnedName;
 use oxt_scopes::scopes::OpenedScope;
 use oxt_scopes::walk::{Walked, walked_of};
 use oxt_scoping::scoping::Scoping;
-use oxt_tree::ids::OutOfMemory;
 use oxt_tree::tree::Node;
 use std::alloc::Global;
 

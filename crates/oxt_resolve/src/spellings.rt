@@ -9,7 +9,7 @@ use indexmap::IndexMap;
 use oxt_declares::declares::text_of;
 use oxt_declares::role::Role;
 use oxt_declares::role_of::role_of;
-use oxt_tree::ids::{NodeId, OutOfMemory};
+use oxt_names::ids::{NodeId, OutOfMemory};
 use oxt_tree::tree::Node;
 use std::alloc::Global;
 

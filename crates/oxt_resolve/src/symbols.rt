@@ -7,13 +7,12 @@ ghost use Rattle.oxt_resolve.specs.Resolved.{again_in, all_declared, declared_as
 use crate::flags::{joined, redeclared};
 use crate::opening::scope_of_number;
 use oxt_declares::declaration::Declaration;
-use oxt_names::ids::{ScopeId, SymbolId};
+use oxt_names::ids::{NodeId, OutOfMemory, ScopeId, SymbolId};
+use oxt_names::name::Name;
 use oxt_scopes::scopes::OpenedScope;
 use oxt_scopes::standing::Standing;
 use oxt_scoping::entry::Redeclaration;
 use oxt_scoping::scoping::Scoping;
-use oxt_tree::ids::{NodeId, OutOfMemory};
-use oxt_tree::name::Name;
 use std::alloc::Global;
 
 /// Declares what the scopes declare.

@@ -8,10 +8,9 @@ ghost use Rattle.oxt_resolve.specs.Spellings.{name_in};
 use crate::flags::usage_flags;
 use crate::opening::scope_of_number;
 use crate::spellings::Spellings;
-use oxt_names::ids::SymbolId;
+use oxt_names::ids::{NodeId, OutOfMemory, SymbolId};
 use oxt_scopes::owners::OwnedName;
 use oxt_scoping::scoping::Scoping;
-use oxt_tree::ids::{NodeId, OutOfMemory};
 
 /// Makes the references of the names.
 #[tactic(auto, using(crate::proofs::Folds::use_steps))]

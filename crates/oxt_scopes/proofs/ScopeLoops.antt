@@ -5,7 +5,7 @@ use Rattle.oxt_grammar.specs.Field.{row_view}
 use Rattle.oxt_grammar.specs.Rows.{row_of}
 use Rattle.oxt_grammar.specs.declared.holds.Row.{Row}
 use Rattle.oxt_grammar.specs.declared.kind.Kind.{Kind}
-use Rattle.oxt_tree.proofs.Lists.{drop_at, drop_end}
+use Rattle.oxt_names.proofs.Lists.{drop_at, drop_end}
 use Rattle.oxt_tree.specs.View.{docs_in, part_doc}
 use Rattle.oxt_tree.specs.declared.tree.Part.{Part}
 use Rattle.oxt_scopes.specs.declared.standing.Standing.{Standing}

@@ -5,8 +5,8 @@ use Rattle.std.specs.Cmp.Lexicographic.{bytes_decides}
 use Rattle.std.specs.Map.{lookup}
 use Rattle.std.specs.Str.{bytes_eq}
 use Rattle.indexmap.specs.IndexMap.{insert_entry}
-use Rattle.oxt_tree.proofs.Lists.{drop_at, drop_end}
-use Rattle.oxt_tree.specs.declared.ids.NodeId.{NodeId}
+use Rattle.oxt_names.proofs.Lists.{drop_at, drop_end}
+use Rattle.oxt_names.specs.declared.ids.NodeId.{NodeId}
 use Rattle.oxt_declares.specs.Declarations.{Declared, declared_view, declared_views, has, is_seen, shows}
 use Rattle.oxt_scopes.specs.Scopes.{Level, beside, block_in, has_name, is_block_of, level, number_of}
 use Rattle.oxt_scopes.specs.Stack.{block_at, level_of, name_in, number_at, seen_at, shows_seen}

@@ -7,7 +7,7 @@ ghost use Rattle.oxt_scopes.specs.Stack.{block_at, level_of, levels, name_in, nu
 use crate::scope::Scope;
 use crate::way::Way;
 use oxt_declares::declaration::Sight;
-use oxt_tree::ids::NodeId;
+use oxt_names::ids::NodeId;
 
 /// What the name means that is read that way in the last of the scopes: the number of the node that
 /// opens the scope of its group; none where it is free.

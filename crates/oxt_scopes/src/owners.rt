@@ -11,12 +11,12 @@ use crate::way::{Pass, Reading, Way};
 use oxt_declares::role::Role;
 use oxt_declares::role_of::role_of;
 use oxt_grammar::field::Field;
-use oxt_tree::ids::{NodeId, OutOfMemory};
+use oxt_names::ids::{NodeId, OutOfMemory};
 use oxt_tree::tree::Node;
 use std::alloc::Global;
 
 /// A name that is used, and its owner.
-#[derive(Clone, Copy, PartialEq, Eq)]
+#[derive(Clone, Copy)]
 pub struct OwnedName {
     /// The number of the node that is the name.
     pub node: NodeId,

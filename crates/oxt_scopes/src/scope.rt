@@ -16,7 +16,7 @@ use oxt_declares::declares::{push_body_members, push_declared, text_of};
 use oxt_declares::names::field_within;
 use oxt_declares::role::Role;
 use oxt_grammar::field::Field;
-use oxt_tree::ids::{NodeId, OutOfMemory};
+use oxt_names::ids::{NodeId, OutOfMemory};
 use oxt_tree::tree::{Node, Part};
 use std::alloc::Global;
 

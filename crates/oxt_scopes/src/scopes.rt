@@ -8,7 +8,7 @@ use crate::standing::Standing;
 use crate::walk::walked_of;
 use oxt_declares::declaration::Declaration;
 use oxt_declares::role::Role;
-use oxt_tree::ids::{NodeId, OutOfMemory};
+use oxt_names::ids::{NodeId, OutOfMemory};
 use oxt_tree::tree::Node;
 use std::alloc::Global;
 

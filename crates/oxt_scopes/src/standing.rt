@@ -18,7 +18,7 @@ use oxt_grammar::kind::Kind;
 use oxt_tree::tree::Node;
 
 /// What becomes of a declaration.
-#[derive(Clone, Copy, PartialEq, Eq)]
+#[derive(Clone, Copy)]
 pub enum Emission {
     /// It is there at run time.
     Emitted,
@@ -31,7 +31,7 @@ pub enum Emission {
 }
 
 /// Whether a declaration is there at run time.
-#[derive(Clone, Copy, PartialEq, Eq)]
+#[derive(Clone, Copy)]
 pub struct Standing {
     /// What becomes of it.
     pub emission: Emission,

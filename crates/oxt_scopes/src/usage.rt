@@ -5,7 +5,7 @@ ghost use Rattle.oxt_scopes.specs.Owners.{usage_of};
 use crate::way::Way;
 
 /// How a name is used.
-#[derive(Clone, Copy, PartialEq, Eq)]
+#[derive(Clone, Copy)]
 pub enum Usage {
     /// It is read.
     Read,

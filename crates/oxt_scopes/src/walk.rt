@@ -23,7 +23,7 @@ use crate::way::{Pass, Reading, Step, Way, step_of};
 use oxt_declares::declares::{push_declared, text_of};
 use oxt_declares::role::Role;
 use oxt_grammar::holds::Row;
-use oxt_tree::ids::{NodeId, OutOfMemory};
+use oxt_names::ids::{NodeId, OutOfMemory};
 use oxt_tree::tree::{Node, Part};
 use std::alloc::Global;
 

@@ -4,7 +4,7 @@ use Rattle.std.specs.Prelude.{◌==◌}
 use Rattle.std.specs.Int.RustNames.{bit_and}
 use Rattle.oxt_scoping.specs.Entries.{begins_const, is_enum}
 use Rattle.oxt_scoping.specs.declared.entry.Redeclaration.{Redeclaration}
-use Rattle.oxt_tree.proofs.Lists.{drop_at, drop_end}
+use Rattle.oxt_names.proofs.Lists.{drop_at, drop_end}
 
 pub const_next : (whole : Bool) (ds : List Redeclaration) (i : ℕ) (d : Redeclaration) → i < length ds → d ≡ get_or ds i d → is_enum d.flags ≡ false → whole ≡ begins_const (drop i ds) → whole ≡ begins_const (drop (i + 1) ds)
 const_next whole ds i d h at other so_far = so_far ∙ ap begins_const (drop_at ds i d h at) ∙ ap (λ b. if b then bit_and d.flags.0 2048 == 2048 else begins_const (drop (i + 1) ds)) other

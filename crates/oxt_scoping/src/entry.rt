@@ -4,15 +4,14 @@ ghost use Rattle.std.specs.Prelude.{◌≡◌, ◌++◌, ◌∷◌, [], IfOk, No
 ghost use Rattle.oxt_scoping.specs.Entries.{bind, begins_const, bound_to, is_enum, is_value, keeping, unbind, value_bits, without};
 ghost use Rattle.oxt_scoping.specs.Scoped.{stays};
 ghost use Rattle.oxt_names.specs.Constant.{constant_view};
-ghost use Rattle.oxt_tree.specs.Names.{name_bytes};
+ghost use Rattle.oxt_names.specs.Names.{name_bytes};
 
 use bitflags::Flags;
 use indexmap::IndexMap;
 use oxt_names::constant::ConstantValue;
 use oxt_names::flags::{ReferenceFlags, ScopeFlags, SymbolFlags};
-use oxt_names::ids::{ReferenceId, ScopeId, SymbolId};
-use oxt_tree::ids::{NodeId, OutOfMemory};
-use oxt_tree::name::Name;
+use oxt_names::ids::{NodeId, OutOfMemory, ReferenceId, ScopeId, SymbolId};
+use oxt_names::name::Name;
 use std::alloc::Global;
 use std::marker::Model;
 
@@ -146,7 +145,7 @@ pub struct SymbolEntry {
 impl Model for SymbolEntry {
     ghost use Rattle.oxt_scoping.specs.Entries.{SymbolData};
     ghost use Rattle.oxt_names.specs.Constant.{constant_view};
-    ghost use Rattle.oxt_tree.specs.Names.{name_bytes};
+    ghost use Rattle.oxt_names.specs.Names.{name_bytes};
     ghost use Rattle.std.specs.Prelude.{option_map};
 
     ghost Value = { SymbolData };

@@ -7,8 +7,7 @@ ghost use Rattle.oxt_names.specs.Constant.{constant_view};
 use crate::entry::{Redeclaration, ScopeEntry, Slot, SymbolEntry};
 use indexmap::IndexMap;
 use oxt_names::constant::ConstantValue;
-use oxt_names::ids::{ReferenceId, ScopeId, SymbolId};
-use oxt_tree::ids::{NodeId, OutOfMemory};
+use oxt_names::ids::{NodeId, OutOfMemory, ReferenceId, ScopeId, SymbolId};
 
 /// The scope with that number.
 pub fn scope_at(scopes: &[ScopeEntry], scope: ScopeId) -> &ScopeEntry

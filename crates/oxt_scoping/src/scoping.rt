@@ -1,7 +1,7 @@
 //! The table of a program's scopes, symbols and references.
 ghost use Rattle.std.specs.Prelude.{◌≡◌, ◌<◌, ◌++◌, ◌∷◌, [], IfOk, IfSome, IsSome, IsTrue, IsOk, None, OnErr, OnOk, Some, false, is_some, length, nat_lt, option_map, slice_get, true};
 ghost use Rattle.oxt_names.specs.Constant.{constant_view};
-ghost use Rattle.oxt_tree.specs.Names.{name_bytes};
+ghost use Rattle.oxt_names.specs.Names.{name_bytes};
 ghost use Rattle.oxt_names.specs.Made.{is_among, made_name};
 ghost use Rattle.oxt_scoping.specs.Entries.{begins_const, bodies_of};
 ghost use Rattle.oxt_scoping.specs.Scoped.{Each, at_node, binding_at, found_outwards, live_at, new_scope, new_symbol, still, unbound_at, values_alone, with_body_at, with_declaration, with_opened_scope, with_reference, with_scope, with_symbol, with_value_at, without_reference};
@@ -16,10 +16,9 @@ use crate::places::{
 use indexmap::IndexMap;
 use oxt_names::constant::ConstantValue;
 use oxt_names::flags::{ReferenceFlags, ScopeFlags, SymbolFlags};
-use oxt_names::ids::{ReferenceId, ScopeId, SymbolId};
+use oxt_names::ids::{NodeId, OutOfMemory, ReferenceId, ScopeId, SymbolId};
+use oxt_names::name::Name;
 use oxt_names::uid::UidNames;
-use oxt_tree::ids::{NodeId, OutOfMemory};
-use oxt_tree::name::Name;
 use std::alloc::Global;
 use std::marker::Model;
 use std::vec;

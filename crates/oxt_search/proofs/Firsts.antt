@@ -8,7 +8,7 @@ use Rattle.oxt_search.specs.Sought.{Sought}
 use Rattle.oxt_grammar.specs.Field.{row_view}
 use Rattle.oxt_grammar.specs.declared.holds.Row.{Row}
 use Rattle.oxt_grammar.specs.declared.kind.Kind.{Kind}
-use Rattle.oxt_tree.proofs.Lists.{drop_end}
+use Rattle.oxt_names.proofs.Lists.{drop_end}
 use Rattle.oxt_tree.specs.View.{docs_in, part_doc}
 use Rattle.oxt_tree.specs.declared.tree.Part.{Part}
 

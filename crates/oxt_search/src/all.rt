@@ -10,8 +10,8 @@ use crate::search::{Inside, Search, Visit};
 use oxt_grammar::field::Field;
 use oxt_grammar::holds::Row;
 use oxt_grammar::kind::Kind;
+use oxt_names::ids::OutOfMemory;
 use oxt_tree::fields::place_of;
-use oxt_tree::ids::OutOfMemory;
 use oxt_tree::tree::{Node, Part};
 use std::alloc::Global;
 

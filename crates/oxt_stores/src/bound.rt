@@ -1,7 +1,7 @@
 //! Names with their symbols.
 
 use oxt_names::ids::SymbolId;
-use oxt_tree::name::Name;
+use oxt_names::name::Name;
 
 /// A name that is bound, and its symbol.
 #[derive(Drop)]

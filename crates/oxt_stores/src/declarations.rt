@@ -1,6 +1,6 @@
 //! Declarators to stand at the top of their lists of statements.
 ghost use Rattle.std.specs.Prelude.{◌≡◌, ◌+◌, ◌<◌, ◌≤◌, [], ◌∷◌, ◌++◌, IfOk, IsTrue, None, OnErr, OnOk, Some, if◌then◌else◌, length, map, option_map, option_to_list, vec_capacity, vec_len};
-ghost use Rattle.oxt_tree.specs.Names.{name_bytes};
+ghost use Rattle.oxt_names.specs.Names.{name_bytes};
 ghost use Rattle.oxt_tree.specs.View.{node_doc};
 ghost use Rattle.oxt_stores.specs.Frame.{below_top, binding, declarator, frame, frames, let_statement, no_declarators, statement_count, statements_made, top_frame, var_statement, with_let, with_var};
 ghost use Rattle.oxt_stores.specs.Insertion.{docs};
@@ -10,7 +10,7 @@ ghost use Rattle.oxt_stores.specs.Ready.{IsBlank, IsReady, blank_statement};
 use crate::bound::BoundIdentifier;
 use crate::make::{Blank, binding, declarator};
 use oxt_grammar::word::Word;
-use oxt_tree::ids::{NodeIds, OutOfMemory};
+use oxt_names::ids::{NodeIds, OutOfMemory};
 use oxt_tree::tree::{Node, Part};
 use std::alloc::Global;
 

@@ -6,7 +6,7 @@ ghost use Rattle.oxt_stores.specs.Placed.{around, found, left, placed, waiting_f
 
 use crate::insertions::{Insertions, push_within};
 use crate::refused::Refused;
-use oxt_tree::ids::{NodeId, OutOfMemory};
+use oxt_names::ids::{NodeId, OutOfMemory};
 use oxt_tree::tree::{Node, Part};
 use std::alloc::Global;
 use std::collections::BTreeMap;

@@ -1,7 +1,7 @@
 //! Made nodes, which have no place in a source text.
 ghost use Rattle.std.specs.Prelude.{◌≡◌, ◌+◌, ◌≤◌, [], IfOk, OnOk, option_map, vec_capacity};
 ghost use Rattle.oxt_grammar.specs.Words.{text_of};
-ghost use Rattle.oxt_tree.specs.Names.{name_bytes};
+ghost use Rattle.oxt_names.specs.Names.{name_bytes};
 ghost use Rattle.oxt_tree.specs.View.{node_doc, part_doc};
 ghost use Rattle.oxt_stores.specs.Frame.{binding, declaration, declarator, or_null};
 ghost use Rattle.oxt_stores.specs.Insertion.{docs};
@@ -9,8 +9,8 @@ ghost use Rattle.oxt_stores.specs.Insertion.{docs};
 use crate::insertions::push_within;
 use oxt_grammar::kind::Kind;
 use oxt_grammar::word::Word;
-use oxt_tree::ids::{NodeId, NodeIds, OutOfMemory, Span};
-use oxt_tree::name::Name;
+use oxt_names::ids::{NodeId, NodeIds, OutOfMemory, Span};
+use oxt_names::name::Name;
 use oxt_tree::tree::{Node, Part};
 use std::alloc::Global;
 

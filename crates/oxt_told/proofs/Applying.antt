@@ -10,9 +10,9 @@ use Rattle.oxt_told.specs.Source.{all_told}
 use Rattle.oxt_told.specs.Uses.{decorator_told, decorators_of, decorators_told, in_element, in_elements, in_parameters, in_part, in_types, parameters_told, uses_told}
 use Rattle.oxt_tree.specs.Fields.{field_of}
 use Rattle.std.specs.Prelude.{codes}
-use Rattle.oxt_tree.proofs.Lists.{drop_at, drop_end}
+use Rattle.oxt_names.proofs.Lists.{drop_at, drop_end}
 use Rattle.oxt_tree.specs.View.{docs_in, part_doc}
-use Rattle.oxt_tree.specs.declared.ids.NodeId.{NodeId}
+use Rattle.oxt_names.specs.declared.ids.NodeId.{NodeId}
 use Rattle.oxt_tree.specs.declared.tree.Part.{Part}
 
 -- ---- decorators

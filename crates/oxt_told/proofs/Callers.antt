@@ -8,7 +8,7 @@ use Rattle.oxt_told.proofs.Loops.{all_told-append}
 use Rattle.oxt_told.specs.Calls.{Common, element_told, elements_told, is_last, takers, takers_behind, takes_keys, waits_behind}
 use Rattle.oxt_told.specs.Classes.{is_gaining}
 use Rattle.oxt_told.specs.Source.{all_told}
-use Rattle.oxt_tree.proofs.Lists.{drop_at, drop_end}
+use Rattle.oxt_names.proofs.Lists.{drop_at, drop_end}
 use Rattle.oxt_tree.specs.Doc.{Docs}
 use Rattle.oxt_tree.specs.View.{docs_in, part_doc}
 use Rattle.oxt_tree.specs.declared.tree.Part.{Part}

@@ -8,7 +8,7 @@ use Rattle.oxt_names.specs.declared.ids.SymbolId.{SymbolId}
 use Rattle.oxt_scoping.specs.Entries.{SymbolData}
 use Rattle.oxt_told.specs.Groups.{all_put}
 use Rattle.oxt_told.specs.Symbols.{first_node, group_of}
-use Rattle.oxt_tree.proofs.Lists.{drop_at, drop_end}
+use Rattle.oxt_names.proofs.Lists.{drop_at, drop_end}
 
 pub more : (os new : Owners) (xs : List (ℕ × ℕ)) (i : ℕ) (x : ℕ × ℕ) → i < length xs → x ≡ get_or xs i x → new ≡ insert_entry nat_eq os x.0 x.1
     → all_put os (drop i xs) ≡ all_put new (drop (i + 1) xs)

@@ -7,7 +7,7 @@ use Rattle.oxt_names.specs.declared.ids.ReferenceId.{ReferenceId}
 use Rattle.oxt_told.specs.Modules.{specifier_told, specifiers_told, statement_told, statements_told}
 use Rattle.oxt_told.specs.Source.{Around, Asked, Chosen, all_told, bare_at, bares, member_bares, member_name, member_told, members_bares, members_told, told_in, told_in_each}
 use Rattle.oxt_told.specs.declared.seat.Seat.{Seat}
-use Rattle.oxt_tree.proofs.Lists.{drop_at, drop_end}
+use Rattle.oxt_names.proofs.Lists.{drop_at, drop_end}
 use Rattle.oxt_tree.specs.View.{docs_in, part_doc}
 use Rattle.oxt_tree.specs.declared.tree.Part.{Part}
 

@@ -13,11 +13,11 @@ use Rattle.oxt_told.specs.Namespaces.{declarator_told, declarators_told, declare
 use Rattle.oxt_told.specs.Source.{all_told}
 use Rattle.oxt_told.specs.Symbols.{group_of}
 use Rattle.oxt_told.specs.declared.seat.Seat.{Seat}
-use Rattle.oxt_tree.proofs.Lists.{drop_at, drop_end}
+use Rattle.oxt_names.proofs.Lists.{drop_at, drop_end}
 use Rattle.oxt_tree.specs.Bound.{Bound, bound_view, bound_views}
 use Rattle.oxt_tree.specs.declared.bound.BoundName.{BoundName}
 use Rattle.oxt_tree.specs.Fields.{field_of}
-use Rattle.oxt_tree.specs.Names.{name_bytes}
+use Rattle.oxt_names.specs.Names.{name_bytes}
 use Rattle.oxt_tree.specs.View.{docs_in, part_doc}
 use Rattle.oxt_tree.specs.declared.tree.Part.{Part}
 use Rattle.std.specs.Prelude.{codes}

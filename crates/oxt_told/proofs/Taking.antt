@@ -13,12 +13,12 @@ use Rattle.oxt_fields.specs.Rules.{Rules}
 use Rattle.oxt_names.specs.Made.{is_among}
 use Rattle.oxt_told.specs.Classes.{free_names, is_name, is_own_name, own_name}
 use Rattle.oxt_told.specs.Taken.{free_name, taken_more, texts_in}
-use Rattle.oxt_tree.proofs.Lists.{drop_at, drop_end}
+use Rattle.oxt_names.proofs.Lists.{drop_at, drop_end}
 use Rattle.oxt_tree.specs.Bound.{bound_views}
-use Rattle.oxt_tree.specs.Names.{name_bytes}
+use Rattle.oxt_names.specs.Names.{name_bytes}
 use Rattle.oxt_tree.specs.View.{docs_in, part_doc}
 use Rattle.oxt_tree.specs.declared.bound.BoundName.{BoundName}
-use Rattle.oxt_tree.specs.declared.name.Name.{Name}
+use Rattle.oxt_names.specs.declared.name.Name.{Name}
 use Rattle.oxt_tree.specs.declared.tree.Part.{Part}
 
 -- texts as the program compares them

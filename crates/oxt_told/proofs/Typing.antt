@@ -6,7 +6,7 @@ use Rattle.oxt_facts.specs.declared.told.ToldType.{ToldType}
 use Rattle.oxt_fields.specs.Rules.{Rules}
 use Rattle.oxt_metadata.specs.Typings.{Source, typing_in}
 use Rattle.oxt_told.specs.Metadata.{rest_by, type_told, types_told}
-use Rattle.oxt_tree.proofs.Lists.{drop_at, drop_end}
+use Rattle.oxt_names.proofs.Lists.{drop_at, drop_end}
 use Rattle.oxt_tree.specs.Doc.{Doc}
 use Rattle.oxt_tree.specs.View.{docs_in, part_doc}
 use Rattle.oxt_tree.specs.declared.tree.Part.{Part}

@@ -30,7 +30,7 @@ use Rattle.oxt_told.specs.declared.told.Source.{Source}
 use Rattle.oxt_tree.specs.Doc.{Doc, nil, flag, number, text, list, node, Docs, no_docs, doc}
 use Rattle.oxt_told.specs.declared.members.EnumAround.{EnumAround}
 use Rattle.oxt_tree.specs.Fields.{elements, field_of, is_nil, named}
-use Rattle.oxt_tree.specs.Names.{name_bytes}
+use Rattle.oxt_names.specs.Names.{name_bytes}
 use Rattle.oxt_declares.specs.Dropped.{is_dropped_by}
 
 -- ---- members

@@ -6,7 +6,7 @@ ghost use Rattle.oxt_fields.specs.Fates.{fate, needs_temporary};
 ghost use Rattle.oxt_fields.specs.Rules.{rules_view};
 ghost use Rattle.oxt_told.specs.Calls.{accessing_of, accessor_needs_tag, accessor_told, call_of, called_told, calling_of, common_of, common_view, element_by, element_told, elements_told, fate_told, field_told, gone_told, has_expression_key, holder_by, holder_of, is_last, is_method, is_waiting, key_in, method_needs_tag, moving_of, needs_tag, staying_needs_tag, storage_by, storage_of, takers, takers_behind, takes_keys, waits_behind, waits_last};
 ghost use Rattle.oxt_told.specs.Source.{all_told};
-ghost use Rattle.oxt_tree.specs.Names.{name_bytes};
+ghost use Rattle.oxt_names.specs.Names.{name_bytes};
 ghost use Rattle.oxt_tree.specs.View.{docs_in, node_doc, part_doc};
 
 use crate::lowering::Lowering;
@@ -24,8 +24,8 @@ use oxt_fields::fate::{Fate, fate_of, hoists_private, needs_call_temporary, need
 use oxt_fields::rules::FieldRules;
 use oxt_grammar::field::Field;
 use oxt_grammar::kind::Kind;
-use oxt_tree::ids::{NodeId, OutOfMemory};
-use oxt_tree::name::Name;
+use oxt_names::ids::{NodeId, OutOfMemory};
+use oxt_names::name::Name;
 use oxt_tree::tree::{Node, Part};
 use std::alloc::Global;
 

@@ -28,7 +28,7 @@ use oxt_fields::fate::{hoists_private, moves_to_constructor};
 use oxt_fields::rules::FieldRules;
 use oxt_grammar::field::Field;
 use oxt_grammar::kind::Kind;
-use oxt_tree::ids::OutOfMemory;
+use oxt_names::ids::OutOfMemory;
 use oxt_tree::tree::{Node, Part};
 
 /// Whether nodes of the kind are classes.

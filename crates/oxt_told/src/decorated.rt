@@ -22,9 +22,9 @@ use oxt_fields::rules::FieldRules;
 use oxt_grammar::field::Field;
 use oxt_grammar::holds::Row;
 use oxt_grammar::kind::Kind;
+use oxt_names::ids::{NodeId, OutOfMemory};
 use oxt_search::first::first_in;
 use oxt_search::search::{Inside, Search, Visit};
-use oxt_tree::ids::{NodeId, OutOfMemory};
 use oxt_tree::tree::{Node, Part};
 
 /// What decorators and static accessors make of the class.

@@ -6,16 +6,16 @@ ghost use Rattle.oxt_told.specs.Extensions.{after, changed, extension_told, has_
 ghost use Rattle.oxt_told.specs.Source.{all_told};
 ghost use Rattle.oxt_tree.specs.Doc.{list};
 ghost use Rattle.oxt_tree.specs.Fields.{is_empty_list, named, text_in};
-ghost use Rattle.oxt_tree.specs.Names.{name_bytes};
+ghost use Rattle.oxt_names.specs.Names.{name_bytes};
 ghost use Rattle.oxt_tree.specs.View.{docs_in, doc_or_nil, node_doc, part_doc};
 
 use oxt_facts::told::{Told, ToldNodes, ToldQuasi};
 use oxt_grammar::field::Field;
 use oxt_grammar::kind::Kind;
 use oxt_names::constant::ConstantValue;
+use oxt_names::ids::OutOfMemory;
+use oxt_names::name::Name;
 use oxt_options::rewrite::RewriteExtensionsMode;
-use oxt_tree::ids::OutOfMemory;
-use oxt_tree::name::Name;
 use oxt_tree::tree::{Node, Part};
 use std::alloc::Global;
 

@@ -7,17 +7,16 @@ ghost use Rattle.oxt_scoping.specs.Scoped.{live_at};
 ghost use Rattle.oxt_names.specs.Constant.{constant_view};
 ghost use Rattle.oxt_told.specs.Source.{all_told, around_view, bare_at, bares, following_or, member_bares, member_name, member_told, members_bares, members_told, name_in, symbol_bares, symbol_told, value_of};
 ghost use Rattle.oxt_tree.specs.Fields.{named};
-ghost use Rattle.oxt_tree.specs.Names.{name_bytes};
+ghost use Rattle.oxt_names.specs.Names.{name_bytes};
 ghost use Rattle.oxt_tree.specs.View.{docs_in, doc_or_nil, part_doc};
 
 use oxt_constant::reversed::is_reversed;
 use oxt_facts::told::{MemberValue, Told, ToldMember, ToldNodes};
 use oxt_grammar::field::Field;
 use oxt_names::constant::ConstantValue;
-use oxt_names::ids::{ReferenceId, SymbolId};
+use oxt_names::ids::{NodeId, OutOfMemory, ReferenceId, SymbolId};
+use oxt_names::name::Name;
 use oxt_scoping::scoping::Scoping;
-use oxt_tree::ids::{NodeId, OutOfMemory};
-use oxt_tree::name::Name;
 use oxt_tree::tree::{Node, Part};
 
 /// An enum around its members.

@@ -15,9 +15,9 @@ use oxt_metadata::name::{node_numbered, path_of, root_of, text_of_name};
 use oxt_metadata::typing::{
     Typing, design_of, parameter_typing, rest_of, returned_by, typed, typing_in,
 };
+use oxt_names::ids::{NodeId, OutOfMemory};
+use oxt_names::name::Name;
 use oxt_options::metadata::MetadataType;
-use oxt_tree::ids::{NodeId, OutOfMemory};
-use oxt_tree::name::Name;
 use oxt_tree::tree::{Node, Part};
 use std::alloc::Global;
 

@@ -9,8 +9,8 @@ ghost use Rattle.oxt_tree.specs.View.{docs_in, node_doc, part_doc};
 use oxt_facts::told::{Told, ToldNodes};
 use oxt_grammar::field::Field;
 use oxt_modules::removed::{is_listing, loses_all, node_is_removed};
+use oxt_names::ids::{NodeId, OutOfMemory};
 use oxt_options::plan::Plan;
-use oxt_tree::ids::{NodeId, OutOfMemory};
 use oxt_tree::tree::{Node, Part};
 
 /// Tells of the imports and exports of the program, whose specifiers are kept as the plan says: which of these statements

@@ -9,7 +9,7 @@ ghost use Rattle.oxt_told.specs.Source.{all_told};
 ghost use Rattle.oxt_told.specs.Symbols.{group_of, named_symbol};
 ghost use Rattle.oxt_tree.specs.Bound.{bound_views};
 ghost use Rattle.oxt_tree.specs.Fields.{field_of, named, text_in};
-ghost use Rattle.oxt_tree.specs.Names.{name_bytes};
+ghost use Rattle.oxt_names.specs.Names.{name_bytes};
 ghost use Rattle.oxt_tree.specs.View.{docs_in, doc_or_nil, node_doc, part_doc};
 
 use crate::seat::Seat;
@@ -19,11 +19,10 @@ use oxt_declares::types_alone::is_node_of_types;
 use oxt_facts::told::{Told, ToldExport, ToldName, ToldNamespace, ToldNodes, ToldStored};
 use oxt_grammar::field::Field;
 use oxt_grammar::kind::Kind;
-use oxt_names::ids::SymbolId;
+use oxt_names::ids::{NodeId, OutOfMemory, SymbolId};
+use oxt_names::name::Name;
 use oxt_scoping::scoping::Scoping;
 use oxt_tree::bound::BoundName;
-use oxt_tree::ids::{NodeId, OutOfMemory};
-use oxt_tree::name::Name;
 use oxt_tree::tree::{Node, Part};
 use std::alloc::Global;
 

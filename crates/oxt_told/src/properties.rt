@@ -7,7 +7,7 @@ ghost use Rattle.oxt_names.specs.Made.{is_among};
 ghost use Rattle.oxt_told.specs.Classes.{empty_fields, free_names, has_properties, identifier_in, is_name, is_own, is_own_name, own_name, parameters_in, property_name, property_names};
 ghost use Rattle.oxt_told.specs.Taken.{free_name, taken_more, texts_in};
 ghost use Rattle.oxt_tree.specs.Bound.{bound_views};
-ghost use Rattle.oxt_tree.specs.Names.{name_bytes};
+ghost use Rattle.oxt_names.specs.Names.{name_bytes};
 ghost use Rattle.oxt_tree.specs.View.{docs_in, doc_or_nil, node_doc, part_doc};
 
 use crate::namespaces::node_names;
@@ -17,9 +17,9 @@ use oxt_fields::fate::{is_field, is_static};
 use oxt_fields::rules::FieldRules;
 use oxt_grammar::field::Field;
 use oxt_grammar::kind::Kind;
+use oxt_names::ids::OutOfMemory;
+use oxt_names::name::Name;
 use oxt_tree::bound::BoundName;
-use oxt_tree::ids::OutOfMemory;
-use oxt_tree::name::Name;
 use oxt_tree::tree::{Node, Part};
 use std::alloc::Global;
 

@@ -5,7 +5,7 @@ ghost use Rattle.oxt_told.specs.Namespaces.{in_block, in_export, seat_inside};
 use oxt_grammar::kind::Kind;
 
 /// Where a node stands.
-#[derive(Clone, Copy, PartialEq, Eq)]
+#[derive(Clone, Copy)]
 pub enum Seat {
     /// In no block of a namespace, or deeper in one than is said below.
     Elsewhere,

@@ -7,8 +7,8 @@ ghost use Rattle.oxt_tree.specs.View.{docs_in, node_doc, part_doc};
 
 use oxt_facts::told::{Told, ToldNodes};
 use oxt_grammar::field::Field;
+use oxt_names::ids::OutOfMemory;
 use oxt_options::options::Module;
-use oxt_tree::ids::OutOfMemory;
 use oxt_tree::tree::{Node, Part};
 
 /// Tells that the program is strict: under CommonJS, where no directive says so.

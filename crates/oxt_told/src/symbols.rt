@@ -7,10 +7,9 @@ ghost use Rattle.oxt_tree.specs.View.{docs_in};
 
 use crate::members::EnumAround;
 use oxt_grammar::field::Field;
-use oxt_names::ids::SymbolId;
+use oxt_names::ids::{NodeId, SymbolId};
 use oxt_scoping::entry::Redeclaration;
 use oxt_scoping::scoping::Scoping;
-use oxt_tree::ids::NodeId;
 use oxt_tree::tree::{Node, Part};
 
 /// The symbol of the name that the declaration has.

@@ -3,7 +3,7 @@ ghost use Rattle.std.specs.Prelude.{◌≡◌, ◌<◌, IfOk, None, Some, codes,
 ghost use Rattle.oxt_facts.specs.Told.{made_use, use_view};
 ghost use Rattle.oxt_told.specs.Symbols.{number_in};
 ghost use Rattle.oxt_told.specs.Tags.{callee, class_symbol, class_use, group_in, is_nameless, object_use, own_use, place_of_calls, symbol_use, tag_at, tag_for};
-ghost use Rattle.oxt_tree.specs.Names.{name_bytes};
+ghost use Rattle.oxt_names.specs.Names.{name_bytes};
 ghost use Rattle.oxt_tree.specs.View.{doc_or_nil, node_doc};
 
 use crate::lowering::Lowering;
@@ -11,10 +11,9 @@ use crate::symbols::{group_of, named_symbol};
 use crate::told::Source;
 use oxt_facts::told::{ToldName, ToldUse};
 use oxt_grammar::field::Field;
-use oxt_names::ids::SymbolId;
+use oxt_names::ids::{OutOfMemory, SymbolId};
+use oxt_names::name::Name;
 use oxt_scoping::scoping::Scoping;
-use oxt_tree::ids::OutOfMemory;
-use oxt_tree::name::Name;
 use oxt_tree::tree::{Node, Part};
 use std::alloc::Global;
 

@@ -9,7 +9,7 @@ ghost use Rattle.oxt_told.specs.Source.{all_told, ambient_told, asked_of, block_
 ghost use Rattle.oxt_told.specs.Strict.{strict_told};
 ghost use Rattle.oxt_told.specs.Symbols.{named_symbol};
 ghost use Rattle.oxt_told.specs.Whole.{told_of_source};
-ghost use Rattle.oxt_tree.specs.Names.{name_bytes};
+ghost use Rattle.oxt_names.specs.Names.{name_bytes};
 ghost use Rattle.oxt_tree.specs.View.{docs_in, node_doc, part_doc};
 
 use crate::classes::{is_class, tell_class};
@@ -27,11 +27,11 @@ use oxt_facts::told::{Told, ToldBlock, ToldNodes};
 use oxt_fields::rules::FieldRules;
 use oxt_grammar::field::Field;
 use oxt_grammar::kind::Kind;
+use oxt_names::ids::{NodeId, OutOfMemory};
 use oxt_options::options::TransformOptions;
 use oxt_options::plan::Plan;
 use oxt_options::rewrite::RewriteExtensionsMode;
 use oxt_scoping::scoping::Scoping;
-use oxt_tree::ids::{NodeId, OutOfMemory};
 use oxt_tree::tree::{Node, Part};
 use std::alloc::Global;
 

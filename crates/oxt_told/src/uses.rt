@@ -26,10 +26,10 @@ use oxt_grammar::field::Field;
 use oxt_grammar::holds::Row;
 use oxt_grammar::kind::Kind;
 use oxt_metadata::typing::function_field;
+use oxt_names::ids::{NodeId, OutOfMemory};
 use oxt_scoping::scoping::Scoping;
 use oxt_search::all::{push_all, push_among};
 use oxt_search::search::{Inside, Search, Visit};
-use oxt_tree::ids::{NodeId, OutOfMemory};
 use oxt_tree::tree::{Node, Part};
 
 /// Tells what decorators make of the node, where they are called.

@@ -6,7 +6,7 @@ use Rattle.oxt_options.specs.Options.{TransformData}
 use Rattle.oxt_transform.specs.Outcomes.{Answered, LowersToLines, OnAnswer, OnDiagnosed, OnDone, limit, options_in}
 use Rattle.oxt_transform.specs.declared.program.Outcome.{Outcome}
 use Rattle.oxt_transform.specs.declared.program.Outcome.TheVariants.{Done, Diagnosed, Refused, Usage, ReadFault, WriteFault, Memory, TooLong}
-use Rattle.oxt_tree.specs.declared.name.Name.{Name}
+use Rattle.oxt_names.specs.declared.name.Name.{Name}
 
 -- Where out took all of the text, it took the answer.
 answered : (words : List Name) (options : TransformData) (bytes : List ℕ) (some_told wanted : Bool) (lines text : List ℕ) (left left' taken taken' : Option (List ℕ))

@@ -6,8 +6,8 @@ use Rattle.oxt_grammar.specs.declared.category.Category.TheVariants as category
 use Rattle.oxt_grammar.specs.declared.holds.Holds.TheVariants as holds
 use Rattle.oxt_transform.specs.Refusals.{is_plain_output}
 use Rattle.oxt_tree.specs.Doc.{Doc}
-use Rattle.oxt_tree.specs.Names.{name_bytes}
-use Rattle.oxt_tree.specs.declared.name.Name.{Name}
+use Rattle.oxt_names.specs.Names.{name_bytes}
+use Rattle.oxt_names.specs.declared.name.Name.{Name}
 use Rattle.oxt_valid.specs.Plain.{is_plain}
 
 -- the place that was found is the first one

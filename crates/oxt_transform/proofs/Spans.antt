@@ -4,10 +4,10 @@ use Rattle.std.proofs.lemmas.Bool.Decides.{Decides-eqb}
 use Rattle.std.specs.Prelude.{⊤, nat_eq}
 use Rattle.oxt_transform.specs.Exports.{HasExports, body, empty_exports, ends_in_export, export_span, is_empty_export, last_is_export, same_span, same_spans}
 use Rattle.oxt_transform.specs.Settings.{SettingsData, has_exports, settings_by}
-use Rattle.oxt_tree.proofs.Lists.{drop_at, drop_end}
+use Rattle.oxt_names.proofs.Lists.{drop_at, drop_end}
 use Rattle.oxt_tree.specs.Doc.{Doc}
 use Rattle.oxt_tree.specs.View.{docs_in, part_doc}
-use Rattle.oxt_tree.specs.declared.ids.Span.{Span}
+use Rattle.oxt_names.specs.declared.ids.Span.{Span}
 use Rattle.oxt_tree.specs.declared.tree.Part.{Part}
 
 -- ---- where they stand

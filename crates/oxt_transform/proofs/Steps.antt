@@ -10,7 +10,7 @@ use Rattle.oxt_enum_checks.specs.Wide.{wide}
 use Rattle.oxt_enum_checks.specs.declared.wide.WideMember.{WideMember}
 use Rattle.oxt_check.specs.Diagnostics.{diagnostics}
 use Rattle.oxt_check.specs.Faults.{IsFaultOf, captured_refusal, facts_of, misplaced_refusal, rules_by, wide_refusal}
-use Rattle.oxt_tree.specs.declared.diagnostic.OxcDiagnostic.{OxcDiagnostic}
+use Rattle.oxt_names.specs.declared.diagnostic.OxcDiagnostic.{OxcDiagnostic}
 use Rattle.oxt_io.specs.Counts.{Rose}
 use Rattle.oxt_io.specs.Passed.{AppendsPrefix, GaveAll}
 use Rattle.oxt_json.specs.Spelling.{no_value, wrong, tree, reading}
@@ -42,7 +42,7 @@ use Rattle.oxt_transform.specs.Decorators.{has_decorator}
 use Rattle.oxt_transform.specs.declared.program.Outcome.{Outcome}
 use Rattle.oxt_transform.specs.declared.program.Outcome.TheVariants.{Done, Diagnosed, Refused, Usage, ReadFault, WriteFault, Memory, TooLong}
 use Rattle.oxt_tree.specs.Doc.{Doc}
-use Rattle.oxt_tree.specs.declared.name.Name.{Name}
+use Rattle.oxt_names.specs.declared.name.Name.{Name}
 use Rattle.oxt_valid.specs.Plain.{is_plain}
 use Rattle.oxt_valid.specs.Valid.{is_tree}
 use Rattle.serde_json.specs.Written.{IsInOrder}

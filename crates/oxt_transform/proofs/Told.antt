@@ -15,9 +15,9 @@ use Rattle.oxt_options.specs.Options.{TransformData}
 use Rattle.oxt_transform.specs.Lowering.{is_of_wrapper, tells_of_wrapper}
 use Rattle.oxt_tree.specs.Doc.{Doc, nil, flag, number, text, list, node, Docs, no_docs, doc}
 use Rattle.oxt_tree.specs.Syntax.{is_definition_file}
-use Rattle.oxt_tree.specs.declared.diagnostic.DiagnosticKind.{DiagnosticKind}
-use Rattle.oxt_tree.specs.declared.diagnostic.DiagnosticKind.TheVariants as diagnostic
-use Rattle.oxt_tree.specs.declared.diagnostic.OxcDiagnostic.{OxcDiagnostic}
+use Rattle.oxt_names.specs.declared.diagnostic.DiagnosticKind.{DiagnosticKind}
+use Rattle.oxt_names.specs.declared.diagnostic.DiagnosticKind.TheVariants as diagnostic
+use Rattle.oxt_names.specs.declared.diagnostic.OxcDiagnostic.{OxcDiagnostic}
 use Rattle.oxt_declares.specs.Dropped.{is_dropped_by, keeps_decorators}
 
 first_false : (b c : Bool) → (b || c) ≡ false → b ≡ false

@@ -18,7 +18,7 @@ use Rattle.oxt_transform.specs.Settings.{SettingsData, settings_by, settings_vie
 use Rattle.oxt_transform.specs.declared.expected.Expected.{Expected}
 use Rattle.oxt_tree.specs.Doc.{Doc}
 use Rattle.oxt_names.specs.Made.{all_added}
-use Rattle.oxt_names.specs.Names.{names}
+use Rattle.oxt_resolve.specs.Names.{names}
 use Rattle.oxt_word.specs.Word.{word}
 
 -- the first fault of a source under the options

@@ -6,7 +6,7 @@ use Rattle.oxt_grammar.specs.declared.kind.Kind.TheVariants as kind
 use Rattle.oxt_tree.specs.Doc.{Doc, list, node, Docs, no_docs, doc}
 use Rattle.oxt_tree.specs.Fields.{elements, field_of, is_empty_list, is_text, named}
 use Rattle.oxt_tree.specs.Syntax.{is_definition_file}
-use Rattle.oxt_tree.specs.declared.ids.Span.{Span}
+use Rattle.oxt_names.specs.declared.ids.Span.{Span}
 
 -- `export {}`: an export of values with an empty list
 abbrev pub is_empty_export_by : Kind → Docs → Bool

@@ -1,13 +1,13 @@
 -- What a fault says of the bytes.
 pub use Rattle.oxt_check.specs.Faults.{refusal_in}
 use Rattle.std.specs.Prelude.{ℕ, List, Option, None, Some, ⊤}
-use Rattle.oxt_tree.specs.declared.diagnostic.OxcDiagnostic.{OxcDiagnostic}
+use Rattle.oxt_names.specs.declared.diagnostic.OxcDiagnostic.{OxcDiagnostic}
 use Rattle.oxt_json.specs.declared.read.ReadFault.{ReadFault}
 use Rattle.oxt_json.specs.declared.read.ReadFault.TheVariants as read_fault
 use Rattle.oxt_options.specs.Options.{TransformData}
 use Rattle.oxt_transform.specs.Refusals.{Refusal, json, shape, Refuses}
 use Rattle.oxt_transform.specs.declared.transform.TransformerReturn.{TransformerReturn}
-use Rattle.oxt_tree.specs.Names.{name_bytes}
+use Rattle.oxt_names.specs.Names.{name_bytes}
 
 -- the refusal that a fault of reading is; none for want of memory
 abbrev pub read_refusal : ReadFault → Option Refusal

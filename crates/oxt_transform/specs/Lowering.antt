@@ -2,9 +2,9 @@
 use Rattle.std.specs.Prelude.{◌≡◌, ℕ, List, Bool, true, false, None}
 use Rattle.std.specs.List.{list_any}
 use Rattle.oxt_check.specs.Diagnostics.{diagnostics}
-use Rattle.oxt_tree.specs.declared.diagnostic.DiagnosticKind.{DiagnosticKind}
-use Rattle.oxt_tree.specs.declared.diagnostic.DiagnosticKind.TheVariants as kind
-use Rattle.oxt_tree.specs.declared.diagnostic.OxcDiagnostic.{OxcDiagnostic}
+use Rattle.oxt_names.specs.declared.diagnostic.DiagnosticKind.{DiagnosticKind}
+use Rattle.oxt_names.specs.declared.diagnostic.DiagnosticKind.TheVariants as kind
+use Rattle.oxt_names.specs.declared.diagnostic.OxcDiagnostic.{OxcDiagnostic}
 use Rattle.oxt_json.specs.Spelling.{reading, tree}
 use Rattle.oxt_json.specs.Spelled.{data_of, text_of}
 use Rattle.oxt_json.specs.Numbered.{unnumbered}

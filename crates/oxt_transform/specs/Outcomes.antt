@@ -1,8 +1,8 @@
 -- What a run answers, and what that says of the words, the source and the sinks.
 use Rattle.std.specs.Prelude.{◌≡◌, ◌≤◌, ℕ, Bool, true, false, not, ◌==◌, List, [], ◌∷◌, ◌++◌, length, map, Option, Some, codes, ⊤}
 use Rattle.std.specs.Io.KnownBytes.{Appends}
-use Rattle.oxt_tree.specs.Line.{lines_of}
-use Rattle.oxt_tree.specs.declared.diagnostic.OxcDiagnostic.{OxcDiagnostic}
+use Rattle.oxt_names.specs.Line.{lines_of}
+use Rattle.oxt_names.specs.declared.diagnostic.OxcDiagnostic.{OxcDiagnostic}
 use Rattle.oxt_flags.specs.Flags.{parsed}
 use Rattle.oxt_io.specs.Counts.{Rose}
 use Rattle.oxt_io.specs.Passed.{GaveAll, AppendsPrefix}
@@ -14,8 +14,8 @@ use Rattle.oxt_io.specs.declared.outcome.InputFault.{InputFault}
 use Rattle.oxt_io.specs.declared.outcome.InputFault.TheVariants as input
 use Rattle.oxt_check.specs.declared.fault.Fault.{Fault}
 use Rattle.oxt_transform.specs.declared.program.Outcome.{Outcome}
-use Rattle.oxt_tree.specs.Names.{name_bytes}
-use Rattle.oxt_tree.specs.declared.name.Name.{Name}
+use Rattle.oxt_names.specs.Names.{name_bytes}
+use Rattle.oxt_names.specs.declared.name.Name.{Name}
 use Rattle.oxt_transform.specs.declared.program.Outcome.TheVariants.{Done, Diagnosed, Refused, Usage, ReadFault, WriteFault, Memory, TooLong}
 
 -- the most bytes that a source may hold

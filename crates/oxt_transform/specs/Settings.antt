@@ -6,7 +6,7 @@ use Rattle.oxt_transform.specs.Exports.{body, empty_exports, ends_in_export, exp
 use Rattle.oxt_transform.specs.declared.settings.Settings.{Settings}
 use Rattle.oxt_tree.specs.Doc.{Doc, Docs}
 use Rattle.oxt_tree.specs.Fields.{field_of, is_text}
-use Rattle.oxt_tree.specs.declared.ids.Span.{Span}
+use Rattle.oxt_names.specs.declared.ids.Span.{Span}
 
 -- a script, and no module
 abbrev pub is_script : Doc → Bool

@@ -4,15 +4,15 @@ ghost use Rattle.std.specs.Str.{bytes_eq};
 ghost use Rattle.oxt_transform.specs.Bound.{MadeAt, bound_again, each_made, made_names, misbound, misbound_among, named_at, own_made, same_node, stray};
 ghost use Rattle.oxt_transform.specs.BoundViews.{IsTableOf, made_view, made_views, node_in};
 ghost use Rattle.oxt_facts.specs.Owners.{owner_in};
-ghost use Rattle.oxt_tree.specs.Names.{name_bytes};
+ghost use Rattle.oxt_names.specs.Names.{name_bytes};
 ghost use Rattle.oxt_tree.specs.View.{docs_in, node_doc, part_doc};
 
 use indexmap::IndexMap;
 use oxt_facts::facts::Facts;
 use oxt_grammar::field::Field;
 use oxt_grammar::kind::Kind;
-use oxt_tree::ids::{NodeId, OutOfMemory};
-use oxt_tree::name::Name;
+use oxt_names::ids::{NodeId, OutOfMemory};
+use oxt_names::name::Name;
 use oxt_tree::tree::{Node, Part};
 use std::alloc::Global;
 

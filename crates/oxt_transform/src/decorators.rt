@@ -5,9 +5,9 @@ ghost use Rattle.oxt_tree.specs.View.{node_doc};
 
 use oxt_grammar::holds::Row;
 use oxt_grammar::kind::Kind;
+use oxt_names::ids::NodeId;
 use oxt_search::first::first_in;
 use oxt_search::search::{Inside, Search, Visit};
-use oxt_tree::ids::NodeId;
 use oxt_tree::tree::Node;
 
 /// Whether a decorator stands in the program.

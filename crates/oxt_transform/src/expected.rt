@@ -11,13 +11,14 @@ use oxt_check::targets::WrappedTargets;
 use oxt_facts::facts::Facts;
 use oxt_facts::item::Item;
 use oxt_modules::due::is_export_due;
+use oxt_names::ids::OutOfMemory;
 use oxt_names::uid::UidNames;
 use oxt_options::TransformOptions;
 use oxt_options::plan::Plan;
+use oxt_resolve::names::taken_names;
 use oxt_scoping::scoping::Scoping;
 use oxt_told::groups::groups_of;
 use oxt_told::told::told_of_source;
-use oxt_tree::ids::OutOfMemory;
 use oxt_tree::tree::Node;
 use oxt_word::word::word_of;
 use std::alloc::Global;
@@ -74,7 +75,7 @@ impl Expected {
         let word = source_word(alloc, source, scoping, plan, options)?;
         let due = is_due(source, plan, options);
         let settings = Settings::of(alloc, source, due, options.decorator.legacy)?;
-        let names = UidNames::of_tree(alloc, source)?;
+        let names = taken_names(alloc, source)?;
         Ok(Expected {
             word,
             settings,

@@ -7,7 +7,7 @@ ghost use Rattle.oxt_tree.specs.View.{docs_in, part_doc};
 
 use oxt_grammar::field::Field;
 use oxt_grammar::kind::Kind;
-use oxt_tree::ids::{OutOfMemory, Span};
+use oxt_names::ids::{OutOfMemory, Span};
 use oxt_tree::tree::{Node, Part};
 use std::alloc::Global;
 

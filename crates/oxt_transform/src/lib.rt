@@ -21,8 +21,8 @@ pub use fault::Fault;
 pub use oxt_io::{
     Failed, MemorySink, MemorySource, ReaderSource, Sink, Source, SureSink, SureSource, WriterSink,
 };
+pub use oxt_names::ids::OutOfMemory;
+pub use oxt_names::name::Name;
 pub use oxt_options::{DecoratorOptions, Module, RewriteExtensionsMode, TypeScriptOptions};
-pub use oxt_tree::ids::OutOfMemory;
-pub use oxt_tree::name::Name;
 pub use program::{Outcome, run};
 pub use transform::{TransformOptions, TransformerReturn, transform_text};

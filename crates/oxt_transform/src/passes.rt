@@ -7,11 +7,11 @@ ghost use Rattle.oxt_tree.specs.View.{node_doc};
 use crate::plain_source::{is_left_alone, say_javascript};
 use crate::typescript::lower_program;
 use oxt_ctx::context::TraverseCtx;
+use oxt_names::ids::OutOfMemory;
 use oxt_options::TransformOptions;
 use oxt_options::plan::Plan;
 use oxt_options::state::TransformState;
 use oxt_scoping::scoping::Scoping;
-use oxt_tree::ids::OutOfMemory;
 use oxt_tree::tree::Program;
 use std::alloc::Global;
 

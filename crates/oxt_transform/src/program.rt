@@ -13,7 +13,7 @@ use crate::fault::Fault;
 use crate::transform::{TransformOptions, transform_text};
 use oxt_flags::options::options_of;
 use oxt_io::{InputFault, Sink, Source, read_to_limit, write_all};
-use oxt_tree::name::Name;
+use oxt_names::name::Name;
 use std::alloc::Global;
 
 /// The most bytes that a source may hold.

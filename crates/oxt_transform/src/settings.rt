@@ -2,14 +2,14 @@
 ghost use Rattle.std.specs.Prelude.{◌≡◌, IfOk, option_map};
 ghost use Rattle.oxt_transform.specs.Exports.{exports_left};
 ghost use Rattle.oxt_transform.specs.Settings.{differs, has_exports, has_language, is_decorated, is_javascript, is_script, settings_by, settings_view, wrong_setting};
-ghost use Rattle.oxt_tree.specs.Names.{name_bytes};
+ghost use Rattle.oxt_names.specs.Names.{name_bytes};
 ghost use Rattle.oxt_tree.specs.View.{docs_in, node_doc};
 
 use crate::decorators::has_decorator;
 use crate::exports::{empty_exports, ends_in_export, same_spans};
 use oxt_grammar::field::Field;
-use oxt_tree::ids::{OutOfMemory, Span};
-use oxt_tree::name::Name;
+use oxt_names::ids::{OutOfMemory, Span};
+use oxt_names::name::Name;
 use oxt_tree::tree::{Node, Part};
 use std::alloc::Global;
 

@@ -7,9 +7,9 @@ ghost use Rattle.oxt_transform.specs.Lowering.{is_of_wrapper, tells_of_wrapper};
 ghost use Rattle.oxt_tree.specs.View.{node_doc};
 
 use oxt_check::targets::WrappedTargets;
+use oxt_names::diagnostic::{DiagnosticKind, OxcDiagnostic};
+use oxt_names::ids::OutOfMemory;
 use oxt_options::TransformOptions;
-use oxt_tree::diagnostic::{DiagnosticKind, OxcDiagnostic};
-use oxt_tree::ids::OutOfMemory;
 use oxt_tree::tree::Node;
 use std::alloc::Global;
 

@@ -27,12 +27,12 @@ use oxt_check::diagnose::diagnostics_of;
 use oxt_check::targets::WrappedTargets;
 use oxt_json::laws::text_tells_trees;
 use oxt_json::{read_tree, write_tree};
+use oxt_names::diagnostic::OxcDiagnostic;
+use oxt_names::ids::OutOfMemory;
+use oxt_names::lines::append_lines;
 pub use oxt_options::TransformOptions;
 use oxt_resolve::resolve::resolve;
 use oxt_scoping::scoping::Scoping;
-use oxt_tree::diagnostic::OxcDiagnostic;
-use oxt_tree::ids::OutOfMemory;
-use oxt_tree::lines::append_lines;
 use oxt_tree::tree::Program;
 use std::alloc::Global;
 

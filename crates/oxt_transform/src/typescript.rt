@@ -11,12 +11,12 @@ use oxt_erase::pass::TypeScriptAnnotations;
 use oxt_lower::namespace::TypeScriptNamespace;
 use oxt_lower::pass::TypeScriptEnum;
 use oxt_modules::retain::retain_modules;
+use oxt_names::ids::OutOfMemory;
 use oxt_options::TransformOptions;
 use oxt_traverse::both::Both;
 use oxt_traverse::dispatch::{run_at_node, run_at_statements};
 use oxt_traverse::hook::Hook;
 use oxt_traverse::pass::Pass;
-use oxt_tree::ids::OutOfMemory;
 use oxt_tree::tree::{Node, Part};
 use oxt_walk::walk::walk_program;
 

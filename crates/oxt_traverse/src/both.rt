@@ -5,7 +5,7 @@ use crate::hook::Hook;
 use crate::pass::Pass;
 use crate::traverse::Traverse;
 use oxt_ctx::context::TraverseCtx;
-use oxt_tree::ids::OutOfMemory;
+use oxt_names::ids::OutOfMemory;
 use oxt_tree::tree::{Node, Part};
 
 /// A pass that runs two others: at each hook the first before the second. Its log is that of the

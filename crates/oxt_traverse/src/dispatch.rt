@@ -10,7 +10,7 @@ use crate::hook::{Hook, as_kind, as_left, at_place, from_place};
 use crate::traverse::Traverse;
 use oxt_ctx::context::TraverseCtx;
 use oxt_grammar::category::Category;
-use oxt_tree::ids::OutOfMemory;
+use oxt_names::ids::OutOfMemory;
 use oxt_tree::tree::{Node, Part};
 
 /// Runs the hooks that the node reaches before its parts: those of its place, and then those of the

@@ -3,7 +3,7 @@
 use crate::hook::Hook;
 use crate::pass::Pass;
 use oxt_ctx::context::TraverseCtx;
-use oxt_tree::ids::OutOfMemory;
+use oxt_names::ids::OutOfMemory;
 use oxt_tree::tree::{Node, Part};
 
 /// The pass that leaves each tree as it is.

@@ -9,7 +9,7 @@ ghost use Rattle.oxt_tree.specs.View.{docs_in, node_doc};
 use crate::hook::Hook;
 use crate::traverse::Traverse;
 use oxt_ctx::context::TraverseCtx;
-use oxt_tree::ids::OutOfMemory;
+use oxt_names::ids::OutOfMemory;
 use oxt_tree::tree::{Node, Part};
 
 /// A pass that says in one list what it does at which hook. It is a `Traverse`, which has the hooks by their names, and promises

@@ -9,7 +9,7 @@ ghost use Rattle.oxt_tree.specs.View.{docs_in, node_doc};
 
 use crate::hook::Hook;
 use oxt_ctx::context::TraverseCtx;
-use oxt_tree::ids::OutOfMemory;
+use oxt_names::ids::OutOfMemory;
 use oxt_tree::tree::{Node, Part};
 
 /// A pass over a tree: a hook for each place at which a pass may do something. The walk calls it

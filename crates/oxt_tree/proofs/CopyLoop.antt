@@ -1,6 +1,6 @@
 -- Copies of a list, an element at a time.
 use Rattle.std.proofs.Common.{ℕ, ◌+◌, ◌<◌, ◌≤◌, ◌≡◌, refl, sym, ap, ◌∙◌, List, [], ◌∷◌, ◌++◌, length, drop, get_or}
-use Rattle.oxt_tree.proofs.Lists.{drop_at, drop_end}
+use Rattle.oxt_names.proofs.Lists.{drop_at, drop_end}
 use Rattle.oxt_tree.specs.Copies.{renumbered, each_renumbered, node_count, total_count}
 use Rattle.oxt_tree.specs.Doc.{Docs, doc, no_docs}
 use Rattle.oxt_tree.specs.View.{docs_in, part_doc}

@@ -1,8 +1,6 @@
-pub mod Appended
 pub mod CopyLoop
 pub mod FreshNumbers
 pub mod Insides
 pub mod Lists
 pub mod NameLoops
 pub mod Places
-pub mod Search

@@ -24,15 +24,5 @@ list_any_docs_in t (p ∷ ps) = ap (λ b. t (part_doc p) || b) (list_any_docs_in
 pub count_by_docs_in : (t : Doc → Bool) (ps : List Part) → count_by t (docs_list (docs_in ps)) ≡ count_by (λ p. t (part_doc p)) ps
 count_by_docs_in t ps = ap (count_by t) (docs_list_docs_in ps) ∙ fold-map (λ a x. a + cond (t x) 1 0) part_doc 0 ps
 
--- The rest of a list begins with the element at its place.
-pub drop_at : {A : Type 0} (xs : List A) (i : ℕ) (x : A) → i < length xs → x ≡ get_or xs i x → drop i xs ≡ x ∷ drop (i + 1) xs
-drop_at xs i x h e = rw add-one (drop-cons xs i x h ∙ ap (λ y. y ∷ drop (suc i) xs) (sym e))
-
-pub drop_end : {A : Type 0} (xs : List A) (i : ℕ) → length xs ≤ i → drop i xs ≡ []
-drop_end [] zero h = refl
-drop_end [] (suc i) h = refl
-drop_end (x ∷ xs) zero h = absurd (omega arith)
-drop_end (x ∷ xs) (suc i) h = drop_end xs i (omega arith)
-
 -- what is counted and sought among parts, and among their documents
 pub ruleset searches = (list_any_docs_in, count_by_docs_in)

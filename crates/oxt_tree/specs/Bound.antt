@@ -7,7 +7,7 @@ use Rattle.oxt_grammar.specs.Rows.{row_of}
 use Rattle.oxt_grammar.specs.declared.kind.Kind.TheVariants as kind
 use Rattle.oxt_tree.specs.Doc.{Doc, nil, flag, number, text, list, node, Docs, no_docs, doc}
 use Rattle.oxt_tree.specs.Fields.{named}
-use Rattle.oxt_tree.specs.Names.{name_bytes}
+use Rattle.oxt_names.specs.Names.{name_bytes}
 use Rattle.oxt_tree.specs.declared.bound.BoundName.{BoundName}
 
 -- the number of a node that is a name, and the name

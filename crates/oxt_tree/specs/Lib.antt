@@ -3,11 +3,6 @@ pub mod Copies
 pub mod Doc
 pub mod Fields
 pub mod Inner
-pub mod Line
-pub mod Names
-pub mod Place
-pub mod Pointer
 pub mod Syntax
 pub mod Taken
-pub mod Texts
 pub mod View

@@ -5,7 +5,7 @@ use Rattle.oxt_grammar.specs.Words.{text_of}
 use Rattle.oxt_grammar.specs.declared.kind.Kind.{Kind}
 use Rattle.oxt_tree.specs.Doc.{Doc, nil, flag, number, text, list, node, Docs, docs_of}
 use Rattle.oxt_tree.specs.Fields.{named}
-use Rattle.oxt_tree.specs.Names.{name_bytes}
+use Rattle.oxt_names.specs.Names.{name_bytes}
 use Rattle.oxt_tree.specs.declared.tree.Node.{Node}
 use Rattle.oxt_tree.specs.declared.tree.Part.{Part, fold-Part}
 use Rattle.oxt_tree.specs.declared.tree.Part.TheOpen.{Part-F, Node-F}

@@ -4,16 +4,16 @@ ghost use Rattle.oxt_grammar.specs.Field.{row_view};
 ghost use Rattle.oxt_tree.specs.Bound.{bound_names, bound_views, bare_name, binds_nothing, names_of_each, names_of_fields};
 ghost use Rattle.oxt_tree.specs.View.{docs_in, field_in, node_doc, part_doc};
 
-use crate::ids::{NodeId, OutOfMemory};
-use crate::name::Name;
 use crate::tree::{Node, Part};
 use oxt_grammar::field::Field;
 use oxt_grammar::holds::Row;
 use oxt_grammar::kind::Kind;
+use oxt_names::ids::{NodeId, OutOfMemory};
+use oxt_names::name::Name;
 use std::alloc::Global;
 
 /// A name that a pattern binds.
-#[derive(Debug, Drop)]
+#[derive(Drop)]
 pub struct BoundName {
     /// The number of the node that is the name.
     pub node: NodeId,

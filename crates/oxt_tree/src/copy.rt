@@ -4,8 +4,8 @@ ghost use Rattle.std.specs.List.{range_with_len};
 ghost use Rattle.oxt_tree.specs.Copies.{renumbered, each_renumbered, node_count, total_count, numbers_in};
 ghost use Rattle.oxt_tree.specs.View.{docs_in, node_doc, part_doc};
 
-use crate::ids::{NodeIds, OutOfMemory};
 use crate::tree::{Node, Part};
+use oxt_names::ids::{NodeIds, OutOfMemory};
 use std::alloc::Global;
 
 impl Node {

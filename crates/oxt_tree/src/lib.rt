@@ -1,16 +1,14 @@
-//! The tree: nodes of one type, whose fields are those of the grammar, where they stand, and the diagnostics that name them.
+//! The tree: nodes of one type, whose fields are those of the grammar; what they bind, copies of them, and which of them are TypeScript.
 #![tactic(auto)]
 
 pub mod bound;
 pub mod copy;
-pub mod diagnostic;
 pub mod fields;
-pub mod ids;
 pub mod inner;
-pub mod lines;
-pub mod name;
-pub mod place;
-pub mod pointer;
 pub mod syntax;
 pub mod take;
 pub mod tree;
+
+pub use oxt_names::diagnostic::{DiagnosticKind, OxcDiagnostic};
+pub use oxt_names::ids::{NodeId, NodeIds, OutOfMemory, Span};
+pub use oxt_names::name::Name;

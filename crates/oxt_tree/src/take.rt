@@ -4,9 +4,9 @@ ghost use Rattle.oxt_tree.specs.Doc.{nil};
 ghost use Rattle.oxt_tree.specs.Taken.{null_literal, empty_statement, bare};
 ghost use Rattle.oxt_tree.specs.View.{node_doc, part_doc};
 
-use crate::ids::{NodeId, Span};
 use crate::tree::{Node, Part};
 use oxt_grammar::kind::Kind;
+use oxt_names::ids::{NodeId, Span};
 use std::alloc::Global;
 use std::mem;
 

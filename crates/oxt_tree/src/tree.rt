@@ -1,9 +1,9 @@
 //! The one type of nodes.
 
-use crate::ids::{NodeId, NodeIds, Span};
-use crate::name::Name;
 use oxt_grammar::kind::Kind;
 use oxt_grammar::word::Word;
+use oxt_names::ids::{NodeId, NodeIds, Span};
+use oxt_names::name::Name;
 
 /// A node of the tree. Its parts are its fields, in the order of the rows of its kind.
 #[derive(Drop)]

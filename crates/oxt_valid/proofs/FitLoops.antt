@@ -6,7 +6,7 @@ use Rattle.oxt_grammar.specs.Places.{narrow}
 use Rattle.oxt_grammar.specs.declared.context.Setting.{Setting}
 use Rattle.oxt_grammar.specs.declared.holds.Holds.{Holds}
 use Rattle.oxt_grammar.specs.declared.holds.Row.{Row}
-use Rattle.oxt_tree.proofs.Lists.{drop_at, drop_end}
+use Rattle.oxt_names.proofs.Lists.{drop_at, drop_end}
 use Rattle.oxt_valid.specs.Valid.{fits, fields_fit, all_fit}
 use Rattle.oxt_tree.specs.View.{docs_in, part_doc}
 use Rattle.oxt_tree.specs.declared.tree.Part.{Part}

@@ -10,8 +10,8 @@ use Rattle.oxt_grammar.specs.declared.context.Setting.{Setting}
 use Rattle.oxt_grammar.specs.declared.holds.Holds.{Holds}
 use Rattle.oxt_grammar.specs.declared.holds.Row.{Row}
 use Rattle.oxt_grammar.specs.declared.kind.Kind.{Kind}
-use Rattle.oxt_tree.proofs.Lists.{drop_at, drop_end}
-use Rattle.oxt_tree.specs.Pointer.{at_key}
+use Rattle.oxt_names.proofs.Lists.{drop_at, drop_end}
+use Rattle.oxt_valid.specs.Pointer.{at_key}
 use Rattle.oxt_tree.specs.View.{docs_in, part_doc}
 use Rattle.oxt_tree.specs.declared.tree.Part.{Part}
 use Rattle.oxt_valid.specs.Misfit.{below, head_misfit, misfit, misfit_in_each, misfit_in_fields, or_else, unless}

@@ -2,7 +2,7 @@
 use Rattle.std.proofs.Common.{ℕ, ◌+◌, ◌<◌, ◌≤◌, ◌≡◌, refl, ap, ◌∙◌, List, [], ◌∷◌, length, map, drop, Bool, true, ◌&&◌, ◌||◌, not, get_or}
 use Rattle.oxt_grammar.specs.Field.{row_view, is_typescript_field}
 use Rattle.oxt_grammar.specs.declared.holds.Row.{Row}
-use Rattle.oxt_tree.proofs.Lists.{drop_at, drop_end}
+use Rattle.oxt_names.proofs.Lists.{drop_at, drop_end}
 use Rattle.oxt_tree.specs.Fields.{is_default}
 use Rattle.oxt_valid.specs.Plain.{is_plain, all_plain, fields_plain}
 use Rattle.oxt_tree.specs.View.{docs_in, part_doc}

@@ -1,6 +1,6 @@
 -- The first place at which a document is no tree of the grammar, in the order of checking: what a
 -- node is, where it stands in the source, its fields in the order of the rows, and its condition.
-use Rattle.std.specs.Prelude.{ℕ, ◌+◌, ◌^◌, List, [], ◌∷◌, Bool, true, false, nat_lt, Option, None, Some, codes}
+use Rattle.std.specs.Prelude.{ℕ, ◌+◌, ◌^◌, List, [], ◌∷◌, Bool, true, false, nat_lt, Option, None, Some, option_map, codes}
 use Rattle.std.specs.Fmt.{decimal}
 use Rattle.oxt_grammar.specs.Context.{setting_of}
 use Rattle.oxt_grammar.specs.Field.{Field}
@@ -14,7 +14,7 @@ use Rattle.oxt_grammar.specs.declared.holds.Holds.{Holds}
 use Rattle.oxt_grammar.specs.declared.holds.Holds.TheVariants as holds
 use Rattle.oxt_grammar.specs.declared.kind.Kind.{Kind}
 use Rattle.oxt_tree.specs.Doc.{Doc, nil, flag, number, text, list, node, Docs, no_docs, doc}
-use Rattle.oxt_tree.specs.Pointer.{at_key}
+use Rattle.oxt_valid.specs.Pointer.{at_key}
 use Rattle.oxt_valid.specs.Condition.{fault}
 use Rattle.oxt_valid.specs.Valid.{allows_text}
 
@@ -25,8 +25,7 @@ unless false = Some []
 
 -- the place, seen from what has the value at a key or an index
 abbrev pub below : List ℕ → Option (List ℕ) → Option (List ℕ)
-below name None = None
-below name (Some place) = Some (at_key name place)
+below name place = option_map (at_key name) place
 
 -- the earlier place, if there is one, and else the later one
 abbrev pub or_else : Option (List ℕ) → Option (List ℕ) → Option (List ℕ)

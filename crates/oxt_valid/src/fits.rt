@@ -15,7 +15,7 @@ use oxt_grammar::context::Setting;
 use oxt_grammar::holds::{Holds, Row};
 use oxt_grammar::kind::Kind;
 use oxt_grammar::word::{Word, Words};
-use oxt_tree::ids::Span;
+use oxt_names::ids::Span;
 use oxt_tree::tree::{Node, Part};
 
 /// Whether the node is a whole tree of the grammar: a program in which each node has the fields of

@@ -1,11 +1,11 @@
 //! Places that there may be.
 ghost use Rattle.std.specs.Prelude.{◌≡◌, IfOk, [], Some, option_map, string_bytes};
 ghost use Rattle.std.specs.Fmt.{decimal};
-ghost use Rattle.oxt_tree.specs.Pointer.{at_key};
+ghost use Rattle.oxt_valid.specs.Pointer.{at_key};
 ghost use Rattle.oxt_valid.specs.Misfit.{below as below_spec};
 
-use oxt_tree::ids::OutOfMemory;
-use oxt_tree::pointer::{below, below_index};
+use crate::pointer::{below, below_index};
+use oxt_names::ids::OutOfMemory;
 use std::alloc::Global;
 
 /// The place of the value at a key.

@@ -5,7 +5,7 @@ use Rattle.std.proofs.Math.Seq.{drop-cons}
 use Rattle.oxt_grammar.specs.Field.{Field, row_view}
 use Rattle.oxt_grammar.specs.declared.category.Category.{Category}
 use Rattle.oxt_grammar.specs.declared.holds.Row.{Row}
-use Rattle.oxt_tree.proofs.Lists.{drop_at, drop_end}
+use Rattle.oxt_names.proofs.Lists.{drop_at, drop_end}
 use Rattle.oxt_tree.specs.Doc.{Doc, Docs, doc}
 use Rattle.oxt_tree.specs.View.{docs_in, part_doc}
 use Rattle.oxt_tree.specs.declared.tree.Part.{Part}

@@ -2,7 +2,7 @@
 use Rattle.std.proofs.Common.{◌≡◌, refl, ◌∙◌, ℕ, zero, suc, ◌+◌, ◌<◌, ◌≤◌, List, [], ◌∷◌, length, drop, get_or, ap, arith, add-one}
 use Rattle.std.proofs.Math.ListN.{set}
 use Rattle.oxt_grammar.specs.declared.kind.Kind.{Kind}
-use Rattle.oxt_tree.proofs.Lists.{drop_at}
+use Rattle.oxt_names.proofs.Lists.{drop_at}
 use Rattle.oxt_tree.specs.Doc.{Doc}
 use Rattle.oxt_tree.specs.View.{docs_in, part_doc}
 use Rattle.oxt_tree.specs.declared.tree.Part.{Part}

@@ -7,7 +7,7 @@ ghost use Rattle.oxt_visit.specs.Calls.{Call, entered, left, visited};
 ghost use Rattle.oxt_visit.specs.Reading.{readings};
 ghost use Rattle.oxt_visit.specs.Weight.{weight};
 
-use oxt_tree::ids::{NodeId, OutOfMemory};
+use oxt_names::ids::{NodeId, OutOfMemory};
 use oxt_tree::tree::Node;
 
 /// A visitor that changes the expressions of a tree. Its hooks do not walk: a walk calls them, and goes into what stands there then.

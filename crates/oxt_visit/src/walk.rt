@@ -28,7 +28,7 @@ use crate::walker::{OfExpressions, OfNames, Walker};
 use oxt_grammar::category::Category;
 use oxt_grammar::holds::Holds;
 use oxt_grammar::kind::Kind;
-use oxt_tree::ids::OutOfMemory;
+use oxt_names::ids::OutOfMemory;
 use oxt_tree::tree::{Node, Part};
 
 /// Visits the expression, and what is in it.

@@ -13,7 +13,7 @@ use crate::place::{is_expression, opens_scope};
 use crate::visitor::{VisitJsMut, VisitMut};
 use oxt_grammar::category::Category;
 use oxt_grammar::kind::Kind;
-use oxt_tree::ids::{NodeId, OutOfMemory};
+use oxt_names::ids::{NodeId, OutOfMemory};
 use oxt_tree::tree::Node;
 
 /// The sort of a `VisitJsMut`.

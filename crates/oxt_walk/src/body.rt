@@ -8,7 +8,7 @@ ghost use Rattle.oxt_walk.specs.Closed.{arrow_body, body_of, declarations, retur
 
 use oxt_ctx::context::TraverseCtx;
 use oxt_grammar::kind::Kind;
-use oxt_tree::ids::{NodeIds, OutOfMemory, Span};
+use oxt_names::ids::{NodeIds, OutOfMemory, Span};
 use oxt_tree::tree::{Node, Part};
 use std::alloc::Global;
 

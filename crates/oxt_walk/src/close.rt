@@ -9,8 +9,8 @@ ghost use Rattle.oxt_walk.specs.Closed.{below_imports, declarations, imports, wi
 
 use oxt_ctx::context::TraverseCtx;
 use oxt_grammar::kind::Kind;
+use oxt_names::ids::{NodeIds, OutOfMemory};
 use oxt_stores::declarations::VarDeclarationsStore;
-use oxt_tree::ids::{NodeIds, OutOfMemory};
 use oxt_tree::tree::{Node, Part};
 
 /// Opens a list of declarators.

@@ -2,7 +2,7 @@
 ghost use Rattle.std.specs.Prelude.{◌≡◌, ◌<◌, IfOk, IfSome, OnOk, drop, length, option_map};
 ghost use Rattle.oxt_scoping.specs.Scoped.{at_node};
 ghost use Rattle.oxt_tree.specs.Fields.{text_in};
-ghost use Rattle.oxt_tree.specs.Names.{name_bytes};
+ghost use Rattle.oxt_names.specs.Names.{name_bytes};
 ghost use Rattle.oxt_tree.specs.View.{docs_in, part_doc};
 ghost use Rattle.oxt_walk.specs.Class.{bound_name, class_name};
 
@@ -10,8 +10,8 @@ use oxt_ctx::ancestor::AncestorRecord;
 use oxt_ctx::context::TraverseCtx;
 use oxt_grammar::field::Field;
 use oxt_grammar::kind::Kind;
-use oxt_tree::ids::OutOfMemory;
-use oxt_tree::name::Name;
+use oxt_names::ids::OutOfMemory;
+use oxt_names::name::Name;
 use oxt_tree::tree::{Node, Part};
 use std::alloc::Global;
 

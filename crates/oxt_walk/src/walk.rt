@@ -17,10 +17,10 @@ use oxt_ctx::context::TraverseCtx;
 use oxt_grammar::category::Category;
 use oxt_grammar::field::Field;
 use oxt_grammar::holds::Holds;
+use oxt_names::ids::OutOfMemory;
 use oxt_traverse::dispatch::{enter_node, leave_node};
 use oxt_traverse::traverse::Traverse;
 use oxt_tree::fields;
-use oxt_tree::ids::OutOfMemory;
 use oxt_tree::tree::{Node, Part};
 
 /// How many levels of nodes are walked below the program. What stands deeper is left as it is. Text

@@ -2,7 +2,7 @@
 ghost use Rattle.std.specs.Prelude.{◌≡◌, ◌++◌, None, OnOk, Some, codes, false, option_map};
 ghost use Rattle.oxt_facts.specs.Entry.{entries};
 ghost use Rattle.oxt_facts.specs.Told.{accessing_view, calling_view, storage_view};
-ghost use Rattle.oxt_tree.specs.Names.{name_bytes};
+ghost use Rattle.oxt_names.specs.Names.{name_bytes};
 ghost use Rattle.oxt_items.specs.Accessors.{accessor_word, getter_key, getter_word, instance_storage, key_text_of, plain_key, setter_key, setter_word, storage_field, storage_put};
 ghost use Rattle.oxt_items.specs.Calls.{tag_of};
 ghost use Rattle.oxt_items.specs.RuleOf.{rule_of};
@@ -21,8 +21,8 @@ use oxt_items::accessors::{
 use oxt_items::calls::{put_keep, put_kept, tag_of};
 use oxt_items::namespaces::put_made;
 use oxt_items::way::Way;
-use oxt_tree::ids::OutOfMemory;
-use oxt_tree::name::Name;
+use oxt_names::ids::OutOfMemory;
+use oxt_names::name::Name;
 use oxt_tree::tree::Node;
 
 /// Puts the field, with the value that is written.

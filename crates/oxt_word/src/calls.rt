@@ -4,7 +4,7 @@ ghost use Rattle.std.specs.Prelude.{◌≡◌, ◌++◌, OnOk, codes, false, opt
 ghost use Rattle.oxt_facts.specs.Entry.{entries, lone, spelled};
 ghost use Rattle.oxt_facts.specs.Told.{calling_view, element_view, metadata_view};
 ghost use Rattle.oxt_tree.specs.Doc.{number, text};
-ghost use Rattle.oxt_tree.specs.Names.{name_bytes};
+ghost use Rattle.oxt_names.specs.Names.{name_bytes};
 ghost use Rattle.oxt_tree.specs.View.{docs_in};
 ghost use Rattle.oxt_items.specs.Calls.{applied_word, called_key, called_word, calling_word, decorator_word, decorators_list, decorators_word, element_text, given_call, injected_word, kept_key, keyless_field, keyless_method, staying_word, subject_word, tagged_word, through_word};
 ghost use Rattle.oxt_items.specs.Helpers.{helper_start};
@@ -25,8 +25,8 @@ use oxt_items::namespaces::put_made;
 use oxt_items::rule::Rule;
 use oxt_items::rule_of::rule_of;
 use oxt_items::way::Way;
-use oxt_tree::ids::OutOfMemory;
-use oxt_tree::name::Name;
+use oxt_names::ids::OutOfMemory;
+use oxt_names::name::Name;
 use oxt_tree::tree::Node;
 use std::vec;
 

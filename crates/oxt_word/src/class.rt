@@ -20,7 +20,7 @@ use oxt_forms::put::{
 use oxt_grammar::field::Field;
 use oxt_items::rule::Rule;
 use oxt_items::way::Way;
-use oxt_tree::ids::OutOfMemory;
+use oxt_names::ids::OutOfMemory;
 use oxt_tree::tree::Node;
 use std::vec;
 

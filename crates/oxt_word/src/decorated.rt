@@ -2,7 +2,7 @@
 ghost use Rattle.std.specs.Prelude.{◌≡◌, ◌++◌, OnOk, Some, false, option_map};
 ghost use Rattle.oxt_facts.specs.Entry.{entries};
 ghost use Rattle.oxt_facts.specs.Told.{decorating_view, metadata_view, use_view};
-ghost use Rattle.oxt_tree.specs.Names.{name_bytes};
+ghost use Rattle.oxt_names.specs.Names.{name_bytes};
 ghost use Rattle.oxt_items.specs.Decorated.{assigned_call, calls_behind, class_bind, class_call, class_list, declared_class, decorated_class, decorated_word, default_class_word, element_calls, own_call, set_class, titled_class, titled_word, used_bind};
 ghost use Rattle.oxt_word.specs.Word.{each_field};
 
@@ -22,8 +22,8 @@ use oxt_items::decorated::{
 use oxt_items::enums::is_exported;
 use oxt_items::metadata::put_metadata;
 use oxt_items::way::Way;
-use oxt_tree::ids::OutOfMemory;
-use oxt_tree::name::Name;
+use oxt_names::ids::OutOfMemory;
+use oxt_names::name::Name;
 use oxt_tree::tree::Node;
 
 /// Puts the name of a class that is called so, declared as that, and exported or not.

@@ -17,7 +17,7 @@ use oxt_items::enums::{
     put_owner, put_return, put_reverse, put_reverse_owner, put_text, put_use,
 };
 use oxt_items::way::Way;
-use oxt_tree::ids::OutOfMemory;
+use oxt_names::ids::OutOfMemory;
 use oxt_tree::tree::Node;
 
 /// Puts a block of an enum, which is exported or not.

@@ -13,7 +13,7 @@ use oxt_forms::put::{put_hash, put_lone, put_open, put_spelled};
 use oxt_grammar::field::Field;
 use oxt_items::modules::{import_binding, put_exports, put_free, put_required_start, put_strict};
 use oxt_items::way::Way;
-use oxt_tree::ids::OutOfMemory;
+use oxt_names::ids::OutOfMemory;
 use oxt_tree::tree::Node;
 
 /// Puts a program: its first line for the system, the directive by which all its code is strict, if that is due, and its

@@ -5,7 +5,7 @@ ghost use Rattle.oxt_facts.specs.Entry.{entries};
 ghost use Rattle.oxt_facts.specs.Told.{calling_view, gaining_view, moving_view};
 ghost use Rattle.oxt_forms.specs.Leaves.{dropped};
 ghost use Rattle.oxt_grammar.specs.declared.kind.Kind.TheVariants as kind;
-ghost use Rattle.oxt_tree.specs.Names.{name_bytes};
+ghost use Rattle.oxt_names.specs.Names.{name_bytes};
 ghost use Rattle.oxt_tree.specs.View.{docs_in};
 ghost use Rattle.oxt_items.specs.Calls.{element_text, tag_of};
 ghost use Rattle.oxt_items.specs.Classes.{calling_statics, element_key, empty_field, empty_fields, field_put, first_word, gaining_constructor, gaining_word, head_word, keeping_keys, key_at_put, later_word, left_word, made_constructor, moved_key, moving_word, put_key_word, puts_word, tail_word};
@@ -27,8 +27,8 @@ use oxt_items::moves::{put_constructor_start, put_empty_fields, put_passing, put
 use oxt_items::namespaces::put_made;
 use oxt_items::rule::Rule;
 use oxt_items::way::Way;
-use oxt_tree::ids::OutOfMemory;
-use oxt_tree::name::Name;
+use oxt_names::ids::OutOfMemory;
+use oxt_names::name::Name;
 use oxt_tree::tree::Node;
 use std::vec;
 

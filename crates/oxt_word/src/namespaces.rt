@@ -2,7 +2,7 @@
 ghost use Rattle.std.specs.Prelude.{◌≡◌, ◌++◌, OnOk};
 ghost use Rattle.oxt_facts.specs.Entry.{entries};
 ghost use Rattle.oxt_facts.specs.Told.{names_view, namespace_view};
-ghost use Rattle.oxt_tree.specs.Names.{name_bytes};
+ghost use Rattle.oxt_names.specs.Names.{name_bytes};
 ghost use Rattle.oxt_items.specs.Namespaces.{export_word, namespace_call, namespace_word, stored_word};
 ghost use Rattle.oxt_word.specs.Word.{each_field};
 
@@ -15,7 +15,7 @@ use oxt_grammar::field::Field;
 use oxt_items::enums::put_text;
 use oxt_items::namespaces::{declared_way, put_entry, put_made, put_names, put_object};
 use oxt_items::way::Way;
-use oxt_tree::ids::OutOfMemory;
+use oxt_names::ids::OutOfMemory;
 use oxt_tree::tree::Node;
 
 /// Puts a block of a namespace, which is exported at the top level or not.

@@ -13,7 +13,7 @@ use oxt_forms::put::{put_bind, put_in, put_lone};
 use oxt_grammar::field::Field;
 use oxt_items::rule::Rule;
 use oxt_items::way::Way;
-use oxt_tree::ids::OutOfMemory;
+use oxt_names::ids::OutOfMemory;
 use oxt_tree::tree::Node;
 
 /// Puts a target: the object and the key of a member.

@@ -55,8 +55,8 @@ use oxt_items::modules::put_quasi;
 use oxt_items::rule::Rule;
 use oxt_items::rule_of::rule_of;
 use oxt_items::way::Way;
+use oxt_names::ids::OutOfMemory;
 use oxt_tree::fields::place_of;
-use oxt_tree::ids::OutOfMemory;
 use oxt_tree::tree::{Node, Part};
 
 /// The effect word of the tree, of whose names that is known: what its code does, as a flat list.

@@ -2,7 +2,7 @@ use Rattle.std.proofs.Common.{◌∙◌, ap}
 use Rattle.std.specs.Str.{bytes_eq}
 use Rattle.oxt_enum_checks.proofs.Namesakes.{repeated_else}
 use Rattle.oxt_enum_checks.specs.Members.{member_view}
-use Rattle.oxt_tree.specs.Names.{name_bytes}
+use Rattle.oxt_names.specs.Names.{name_bytes}
 use Rattle.oxt_enum_checks.proofs.repeated.is_repeated.Goals as goal
 
 pub returns-else-eq : goal.returns-else-eq

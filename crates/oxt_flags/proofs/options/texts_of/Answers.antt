@@ -2,7 +2,7 @@ use Rattle.std.proofs.Common.{◌≡◌, ◌∙◌, ap, ap₂, sym, subst, arith
 use Rattle.std.specs.List.{All}
 use Rattle.std.proofs.lemmas.List.{map_more, map-append}
 use Rattle.std.proofs.lemmas.List.Elements.{All-append}
-use Rattle.oxt_tree.specs.Names.{name_bytes}
+use Rattle.oxt_names.specs.Names.{name_bytes}
 use Rattle.oxt_flags.proofs.options.texts_of.Goals as goal
 
 abbrev IsText : Bor (List ℕ) → Type 0

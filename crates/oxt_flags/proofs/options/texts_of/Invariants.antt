@@ -1,6 +1,6 @@
 use Rattle.std.proofs.Common.{◌≡◌, IsUtf8, map, take}
 use Rattle.std.specs.List.{All}
-use Rattle.oxt_tree.specs.Names.{name_bytes}
+use Rattle.oxt_names.specs.Names.{name_bytes}
 use Rattle.oxt_flags.proofs.options.texts_of.Given as goal
 
 abbrev pub invariant-loop-word : goal.invariant-loop-word

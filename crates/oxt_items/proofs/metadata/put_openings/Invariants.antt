@@ -1,7 +1,7 @@
 -- What is put so far, with what is left, is the whole.
 use Rattle.std.proofs.Common.{◌≡◌, ◌++◌, drop, map}
 use Rattle.oxt_facts.specs.Entry.{entries}
-use Rattle.oxt_tree.specs.Names.{name_bytes}
+use Rattle.oxt_names.specs.Names.{name_bytes}
 use Rattle.oxt_items.specs.Metadata.{openings}
 use Rattle.oxt_items.proofs.metadata.put_openings.Given as goal
 

@@ -4,7 +4,7 @@ use Rattle.oxt_facts.specs.declared.item.ItemKind.TheVariants as item
 use Rattle.oxt_forms.specs.Details.{start}
 use Rattle.oxt_grammar.specs.declared.kind.Kind.TheVariants.{UnaryExpression}
 use Rattle.oxt_tree.specs.Doc.{text}
-use Rattle.oxt_tree.specs.Names.{name_bytes}
+use Rattle.oxt_names.specs.Names.{name_bytes}
 use Rattle.oxt_items.specs.Metadata.{path_word}
 use Rattle.oxt_items.proofs.metadata.put_typeof.Goals as goal
 

@@ -2,7 +2,7 @@
 use Rattle.std.proofs.Common.{◌≡◌, ◌++◌, drop}
 use Rattle.oxt_facts.specs.Entry.{entries}
 use Rattle.oxt_facts.specs.Told.{names_view}
-use Rattle.oxt_tree.specs.Names.{name_bytes}
+use Rattle.oxt_names.specs.Names.{name_bytes}
 use Rattle.oxt_items.specs.Namespaces.{name_puts}
 use Rattle.oxt_items.proofs.namespaces.put_names.Given as goal
 

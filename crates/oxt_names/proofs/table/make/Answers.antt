@@ -1,6 +1,6 @@
 -- A free base is the name.
 use Rattle.std.proofs.Common.{◌≡◌, ◌∙◌, false, string_bytes}
-use Rattle.oxt_tree.specs.Names.{name_bytes}
+use Rattle.oxt_names.specs.Names.{name_bytes}
 use Rattle.oxt_names.proofs.Candidates.{one_bare}
 use Rattle.oxt_names.specs.Made.{is_among}
 use Rattle.oxt_names.specs.Tried.{spellings}

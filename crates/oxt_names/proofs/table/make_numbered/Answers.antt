@@ -1,6 +1,6 @@
 -- The first free number behind the base, and what the two insertions leave.
 use Rattle.std.proofs.Common.{sym, ◌∙◌, true≢false, string_bytes}
-use Rattle.oxt_tree.specs.Names.{name_bytes}
+use Rattle.oxt_names.specs.Names.{name_bytes}
 use Rattle.oxt_names.proofs.Candidates.{base_stays, first_numbered, one_more, tried_again}
 use Rattle.oxt_names.proofs.Tables.{on_err}
 use Rattle.oxt_names.specs.Tried.{FirstFree, spellings}

@@ -1,7 +1,7 @@
 -- What is told so far, and then of the members that are left, behind the one before them.
 use Rattle.std.proofs.Common.{◌≡◌, drop, None, option_map}
 use Rattle.oxt_told.specs.Source.{all_told, around_view, members_told}
-use Rattle.oxt_tree.specs.Names.{name_bytes}
+use Rattle.oxt_names.specs.Names.{name_bytes}
 use Rattle.oxt_tree.specs.View.{docs_in}
 use Rattle.oxt_told.proofs.members.tell_members.Given as goal
 

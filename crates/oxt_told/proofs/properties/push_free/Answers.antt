@@ -1,7 +1,7 @@
 use Rattle.std.proofs.Common.{◌∙◌, sym}
 use Rattle.oxt_told.proofs.Taking.{name_put}
 use Rattle.oxt_told.specs.Taken.{texts_in}
-use Rattle.oxt_tree.specs.Names.{name_bytes}
+use Rattle.oxt_names.specs.Names.{name_bytes}
 use Rattle.oxt_told.proofs.properties.push_free.Goals as goal
 
 pub returns-in_ok-push-clause-fields : goal.returns-in_ok-push-clause-fields

@@ -1,5 +1,5 @@
 use Rattle.oxt_told.proofs.Taking.{text_added, text_free}
-use Rattle.oxt_tree.specs.Names.{name_bytes}
+use Rattle.oxt_names.specs.Names.{name_bytes}
 use Rattle.oxt_told.proofs.properties.take.Goals as goal
 
 pub returns-clause-free : goal.returns-clause-free
