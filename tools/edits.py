@@ -5,12 +5,10 @@
     tools/edits.py NAME..     those of these crates
 
 An edit is a file as those of `must-fail/`. They are tried in a copy of the crates, where `more-edits/` stands in the place
-of `must-fail/`: `rt check` proves a crate and `rt must-fail` tries its edits, with as many crates at once as there are
-processors; what stands below them is proved once. Prints each edit that was not refused, is bad, or was not tried, and each
-crate that is not proved, then the counts. The status is 1 if there is one.
+of `must-fail/`, by `rt ci NAME..` with as many checks at once as the gate makes: what an earlier run on the machine proved is
+taken from there, and what stands below the crates is proved if it was not. Prints each edit that was not refused, is bad, or
+was not tried, and each crate that is not proved, then the counts. The status is 1 if there is one.
 """
-import concurrent.futures
-import os
 import pathlib
 import re
 import shutil
@@ -22,6 +20,7 @@ REPO = pathlib.Path(__file__).resolve().parent.parent
 # What rt says of an edit: `must-fail CRATE/NAME.edit: WHAT`.
 TOLD = re.compile(r"(?:rt: )+must-fail (\S+)\.edit: (.*)")
 REFUSED = "refused, as it must be"
+NOT_PROVED = re.compile(r"rt: (\w+) NOT PROVED")
 
 
 def crates_with_edits(names):
@@ -34,6 +33,7 @@ def copy_to(top, crates):
     """Copies the crates, those to try with their other edits alone."""
     for name in ("crates.txt", "HANDLES"):
         shutil.copy(REPO / name, top / name)
+    shutil.copytree(REPO / ".ci", top / ".ci")
     shutil.copytree(REPO / "crates", top / "crates", ignore=shutil.ignore_patterns("out"))
     for path in top.glob("crates/*/must-fail"):
         shutil.rmtree(path)
@@ -41,26 +41,13 @@ def copy_to(top, crates):
         (top / "crates" / name / "more-edits").rename(top / "crates" / name / "must-fail")
 
 
-def run(words, folder):
-    """What rt says in that folder, and whether all is well."""
-    ran = subprocess.run(["rt", *words], cwd=folder, stdout=subprocess.PIPE, stderr=subprocess.STDOUT, text=True, errors="replace")
-    return ran.stdout.splitlines(), ran.returncode == 0
-
-
-def tried(top, name):
-    """What came of each edit of the crate, and whether the crate is proved without them."""
-    _, is_proved = run(["check"], top / "crates" / name)
-    lines, _ = run(["must-fail", name], top) if is_proved else ([], False)
-    told = [TOLD.match(line) for line in lines]
-    return {it[1]: it[2] for it in told if it}, is_proved
-
-
-def try_all(top, crates):
-    """What came of each edit of the crates, and the crates that are not proved."""
-    with concurrent.futures.ThreadPoolExecutor(os.cpu_count()) as pool:
-        found = list(pool.map(lambda name: tried(top, name), crates))
-    edits = {edit: what for told, _ in found for edit, what in told.items()}
-    return edits, [name for name, (_, is_proved) in zip(crates, found) if not is_proved]
+def tried(top, crates):
+    """What came of each edit of the crates, and which crates are not proved."""
+    words = f"source .ci/jobs.sh; exec rt ci {' '.join(crates)}"
+    ran = subprocess.run(["bash", "-c", words], cwd=top, stdout=subprocess.PIPE, stderr=subprocess.STDOUT, text=True, errors="replace", check=False)
+    lines = ran.stdout.splitlines()
+    edits = {told[1]: told[2] for told in map(TOLD.match, lines) if told}
+    return edits, [told[1] for told in map(NOT_PROVED.match, lines) if told]
 
 
 def main():
@@ -72,7 +59,7 @@ def main():
         top = pathlib.Path(room)
         copy_to(top, crates)
         wanted = [f"{name}/{path.stem}" for name in crates for path in sorted((top / "crates" / name / "must-fail").glob("*.edit"))]
-        edits, failed = try_all(top, crates)
+        edits, failed = tried(top, crates)
     lost = [(name, edits.get(name, "not tried")) for name in wanted if not edits.get(name, "").startswith(REFUSED)]
     for name, what in lost:
         print(f"{name}: {what}")
