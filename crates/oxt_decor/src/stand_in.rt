@@ -2,13 +2,14 @@
 //!
 //! Such a field goes, but its decorators are applied, and its key is computed for that. While the class is walked a
 //! private field without a value stands for it, which no other pass changes: it has the decorators of the field, and
-//! behind them one more, whose expression is the key.
+//! behind them one more, whose expression lists the key and the value. The value is walked, though it goes, so that its
+//! variables are declared as those of any value are.
 //!
 //! Before:
 //!
 //! ```ts
 //! class Point {
-//!     @noted declare [label()]: string;
+//!     @noted declare [label()]: string = "point";
 //! }
 //! ```
 //!
@@ -16,7 +17,7 @@
 //!
 //! ```js
 //! class Point {
-//!     @noted @label() #;
+//!     @noted @[label(), "point"] #;
 //! }
 //! ```
 use crate::frame::ClassFrame;
@@ -85,33 +86,54 @@ fn is_hidden(element: &Node) -> bool {
 
 /// Makes the field one that stands for it.
 fn hide(alloc: Global, field: &mut Node, ids: &mut NodeIds) -> Result<(), OutOfMemory> {
-    if let Some(key) = take_node(field, Field::Key) {
-        let decorator = make(Kind::Decorator, vec![in alloc; Part::Node(key)]?, ids)?;
-        if let Some(decorators) = list_mut(field, Field::Decorators) {
-            decorators.push(Part::Node(decorator))?;
-        }
+    let hidden = hidden_parts(alloc, field, ids)?;
+    if let Some(decorators) = list_mut(field, Field::Decorators) {
+        decorators.push(Part::Node(hidden))?;
     }
     let name = Name::new(alloc, "")?;
     let key = private_name(alloc, &name, ids)?;
     put_field(field, Field::Key, Part::Node(key));
     put_field(field, Field::Declare, Part::Flag(false));
-    put_field(field, Field::Value, Part::Nothing);
+    Ok(())
+}
+
+/// Takes the key and the value of the field into a decorator.
+fn hidden_parts(alloc: Global, field: &mut Node, ids: &mut NodeIds) -> Result<Node, OutOfMemory> {
+    let mut parts = Vec::new(alloc);
+    push_taken(&mut parts, take_node(field, Field::Key))?;
+    push_taken(&mut parts, take_node(field, Field::Value))?;
+    let list = make(
+        Kind::ArrayExpression,
+        vec![in alloc; Part::List(parts)]?,
+        ids,
+    )?;
+    make(Kind::Decorator, vec![in alloc; Part::Node(list)]?, ids)
+}
+
+/// Appends the node, if there is one.
+fn push_taken(parts: &mut Vec<Part>, taken: Option<Node>) -> Result<(), OutOfMemory> {
+    if let Some(node) = taken {
+        parts.push(Part::Node(node))?;
+    }
     Ok(())
 }
 
 /// Puts the key back into the field, if it stands for one.
 pub fn show_key(field: &mut Node, stand_ins: &IndexSet<u64>) {
     if stand_ins.contains(&field.id.0) {
-        if let Some(key) = last_expression(field) {
+        if let Some(key) = hidden_key(field) {
             put_field(field, Field::Key, Part::Node(key));
         }
     }
 }
 
-/// Takes the expression of the last of the decorators, which goes.
-fn last_expression(field: &mut Node) -> Option<Node> {
+/// Takes the first of what the last of the decorators lists; the decorator goes.
+fn hidden_key(field: &mut Node) -> Option<Node> {
     let mut decorator = as_node(list_mut(field, Field::Decorators)?.pop()?)?;
-    take_node(&mut decorator, Field::Expression)
+    let mut list = take_node(&mut decorator, Field::Expression)?;
+    let parts = list_mut(&mut list, Field::Elements)?;
+    parts.truncate(1);
+    as_node(parts.pop()?)
 }
 
 /// Drops the elements of the class that stand for fields.
