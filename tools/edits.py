@@ -4,11 +4,14 @@
     tools/edits.py            those of all crates
     tools/edits.py NAME..     those of these crates
 
-An edit is a file as those of `must-fail/`. They are tried in a copy of the crates, where `more-edits/` stands in the place
-of `must-fail/`, by `rt ci NAME..` with as many checks at once as the gate makes: what an earlier run on the machine proved is
-taken from there, and what stands below the crates is proved if it was not. Prints each edit that was not refused, is bad, or
-was not tried, and each crate that is not proved, then the counts. The status is 1 if there is one.
+An edit is a file as those of `must-fail/`. First the crates are proved with what stands below them, by `rt ci NAME..`: what an
+earlier run on the machine proved is taken from there. Then each crate is tried in a copy, where `more-edits/` stands in the
+place of `must-fail/`, by one check after the other, since those of a crate that are made at once prove it once each; as many
+crates at once as there are processors. Prints each edit that was not refused, is bad, or was not tried, and each crate that is
+not proved, then the counts. The status is 1 if there is one.
 """
+import concurrent.futures
+import os
 import pathlib
 import re
 import shutil
@@ -29,25 +32,47 @@ def crates_with_edits(names):
     return [name for name in found if not names or name in names]
 
 
-def copy_to(top, crates):
-    """Copies the crates, those to try with their other edits alone."""
-    for name in ("crates.txt", "HANDLES"):
-        shutil.copy(REPO / name, top / name)
+def edits_of(name):
+    """The edits to try of the crate, as they are named."""
+    return [f"{name}/{path.stem}" for path in sorted((REPO / "crates" / name / "more-edits").glob("*.edit"))]
+
+
+def copy_to(top, name=None):
+    """Copies the crates without the edits of the gate; that crate, if one is named, has its other edits in their place."""
+    for file in ("crates.txt", "HANDLES"):
+        shutil.copy(REPO / file, top / file)
     shutil.copytree(REPO / ".ci", top / ".ci")
-    shutil.copytree(REPO / "crates", top / "crates", ignore=shutil.ignore_patterns("out"))
-    for path in top.glob("crates/*/must-fail"):
-        shutil.rmtree(path)
-    for name in crates:
+    shutil.copytree(REPO / "crates", top / "crates", ignore=shutil.ignore_patterns("out", "must-fail"))
+    if name:
         (top / "crates" / name / "more-edits").rename(top / "crates" / name / "must-fail")
 
 
-def tried(top, crates):
-    """What came of each edit of the crates, and which crates are not proved."""
-    words = f"source .ci/jobs.sh; exec rt ci {' '.join(crates)}"
-    ran = subprocess.run(["bash", "-c", words], cwd=top, stdout=subprocess.PIPE, stderr=subprocess.STDOUT, text=True, errors="replace", check=False)
-    lines = ran.stdout.splitlines()
+def told_by(words, name=None):
+    """The lines of the command, run in a copy."""
+    with tempfile.TemporaryDirectory(prefix="oxt-edits-") as room:
+        top = pathlib.Path(room)
+        copy_to(top, name)
+        ran = subprocess.run(["bash", "-c", words], cwd=top, stdout=subprocess.PIPE, stderr=subprocess.STDOUT, text=True, errors="replace", check=False)
+        return ran.stdout.splitlines()
+
+
+def not_proved(crates):
+    """Which of the crates, and of those below them, are not proved."""
+    lines = told_by(f"source .ci/jobs.sh; exec rt ci {' '.join(crates)}")
+    return [told[1] for told in map(NOT_PROVED.match, lines) if told]
+
+
+def tried(name):
+    """What came of each edit of the crate."""
+    lines = told_by(f"RT_JOBS=1 exec rt ci {name}", name)
     edits = {told[1]: told[2] for told in map(TOLD.match, lines) if told}
-    return edits, [told[1] for told in map(NOT_PROVED.match, lines) if told]
+    came = [(edit, edits.get(edit, "not tried")) for edit in edits_of(name)]
+    print(f"{name}: {sum(is_refused(what) for _, what in came)} of {len(came)} refused", flush=True)
+    return came
+
+
+def is_refused(what):
+    return what.startswith(REFUSED)
 
 
 def main():
@@ -55,17 +80,16 @@ def main():
     crates = crates_with_edits(names)
     if missing := set(names) - set(crates):
         sys.exit(f"no edits in more-edits/ of {', '.join(sorted(missing))}")
-    with tempfile.TemporaryDirectory(prefix="oxt-edits-") as room:
-        top = pathlib.Path(room)
-        copy_to(top, crates)
-        wanted = [f"{name}/{path.stem}" for name in crates for path in sorted((top / "crates" / name / "must-fail").glob("*.edit"))]
-        edits, failed = tried(top, crates)
-    lost = [(name, edits.get(name, "not tried")) for name in wanted if not edits.get(name, "").startswith(REFUSED)]
-    for name, what in lost:
-        print(f"{name}: {what}")
+    failed = not_proved(crates)
+    crates.sort(key=lambda name: -len(edits_of(name)))
+    with concurrent.futures.ThreadPoolExecutor(os.cpu_count()) as pool:
+        came = [edit for edits in pool.map(tried, [name for name in crates if name not in failed]) for edit in edits]
+    lost = [(edit, what) for edit, what in came if not is_refused(what)]
+    for edit, what in lost:
+        print(f"{edit}: {what}")
     for name in failed:
         print(f"{name}: not proved")
-    print(f"{len(wanted)} edits of {len(crates)} crates, {len(wanted) - len(lost)} refused, {len(lost)} not")
+    print(f"{len(came)} edits of {len(crates)} crates, {len(came) - len(lost)} refused, {len(lost)} not")
     sys.exit(1 if lost or failed else 0)
 
 

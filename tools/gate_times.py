@@ -153,8 +153,8 @@ def words_for(clone, crates, name, kept):
 
 
 def function_times(clone, crates, name):
-    """The functions of a crate with the seconds until the prover had ended with each. The first is left out: all that comes
-    before it is counted to it."""
+    """The functions of a crate with the seconds from where the prover had ended with the one before until it had ended with each. What it does
+    for others meanwhile is counted too, so what is dear may stand at a neighbour. The first is left out: all that comes before it is counted to it."""
     with tempfile.TemporaryDirectory(prefix="oxt-times-") as kept:
         check = subprocess.Popen(words_for(clone, crates, name, kept), cwd=clone / "crates" / name, stdout=subprocess.PIPE,
                                  stderr=subprocess.STDOUT, text=True, errors="replace")
