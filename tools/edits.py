@@ -84,6 +84,7 @@ def main():
     crates.sort(key=lambda name: -len(edits_of(name)))
     with concurrent.futures.ThreadPoolExecutor(os.cpu_count()) as pool:
         came = [edit for edits in pool.map(tried, [name for name in crates if name not in failed]) for edit in edits]
+    came += [(edit, "not tried") for name in crates if name in failed for edit in edits_of(name)]
     lost = [(edit, what) for edit, what in came if not is_refused(what)]
     for edit, what in lost:
         print(f"{edit}: {what}")
