@@ -30,6 +30,7 @@ EVERY = 0.5
 CHEAP = 20
 LISTED = 10
 LAST_LINE = re.compile(r"\d+ passed, \d+ failed")
+CYCLE = re.compile(r"#\[cycle\((\w+)\)\]\n(?:\s*#.*\n)*\s*(?:pub(?:\([a-z]+\))? )?fn (\w+)")
 PROOF, EDITS, PROGRAMS = "proof", "edits", "programs"
 
 
@@ -169,11 +170,30 @@ def function_times(clone, crates, name):
     return times
 
 
+def cycles_in(clone, name):
+    """The functions of each cycle of a crate, by their paths; those of a cycle call one another, and have one proof."""
+    cycles = collections.defaultdict(set)
+    source = clone / "crates" / name / "src"
+    for file in source.rglob("*.rt"):
+        path = [name, *file.relative_to(source).with_suffix("").parts]
+        for cycle, function in CYCLE.findall(file.read_text(encoding="utf-8")):
+            cycles[cycle].add("::".join([*path, function]))
+    return cycles
+
+
+def shared_by(clone, function):
+    """How many functions share the proof of this one."""
+    cycles = cycles_in(clone, function.partition("::")[0]).values()
+    return next((len(members) for members in cycles if function in members), 1)
+
+
 def slow_functions(clone, names):
+    """The proofs that take so long, with the function that each is named for and the number of those that share it."""
     crates = crates_in(clone)
     with concurrent.futures.ThreadPoolExecutor(os.cpu_count()) as pool:
         found = pool.map(lambda name: function_times(clone, crates, name), names)
-        return sorted(((s, function) for times in found for s, function in times if s >= LISTED), reverse=True)
+        slow = sorted(((s, function) for times in found for s, function in times if s >= LISTED), reverse=True)
+    return [(s, function, shared_by(clone, function)) for s, function in slow]
 
 
 def page(last, elapsed, seconds, slow):
@@ -199,11 +219,12 @@ def page(last, elapsed, seconds, slow):
         *[f"| `{crate}` | {cells(counted)} |" for crate, counted in rows],
         f"| all | {cells(sums)} |",
         "",
-        f"Functions that take {LISTED} seconds or more, with as many checks at once as there are cores:",
+        f"Proofs that take {LISTED} seconds or more, with as many checks at once as there are cores. Functions that call one another have one proof, "
+        "which is named for one of them:",
         "",
-        "| Function | Seconds |",
-        "|---|---|",
-        *[f"| `{function}` | {s:.0f} |" for s, function in slow],
+        "| Function | Functions in the proof | Seconds | For each |",
+        "|---|---|---|---|",
+        *[f"| `{function}` | {number} | {s:.0f} | {s / number:.0f} |" for s, function, number in slow],
         "",
     ])
 
@@ -211,8 +232,8 @@ def page(last, elapsed, seconds, slow):
 def main():
     if sys.argv[1:]:
         clone = pathlib.Path(sys.argv[1]).resolve()
-        for s, function in slow_functions(clone, list(crates_in(clone))):
-            print(f"{s:6.1f}  {function}")
+        for s, function, number in slow_functions(clone, list(crates_in(clone))):
+            print(f"{s:6.1f}  {s / number:5.1f}  {number:4}  {function}")
         return
     with tempfile.TemporaryDirectory(prefix="oxt-gate-") as room:
         clone = pathlib.Path(room) / "oxt"

@@ -19,7 +19,8 @@ use Rattle.oxt_fields.specs.Rules.{Rules}
 use Rattle.oxt_grammar.specs.Places.{same_kind}
 use Rattle.oxt_grammar.specs.declared.kind.Kind.{Kind}
 use Rattle.oxt_grammar.specs.declared.kind.Kind.TheVariants as kind
-use Rattle.oxt_modules.specs.Aliases.{alias_named, alias_search, is_required, left_out, left_out_names}
+use Rattle.oxt_modules.specs.Aliases.{alias_named, alias_search, left_out, left_out_names}
+use Rattle.oxt_declares.specs.Imports.{is_required}
 use Rattle.oxt_scoping.specs.Scoped.{Scoped}
 use Rattle.oxt_search.proofs.Nothing.{either_none}
 use Rattle.oxt_search.specs.First.{first}

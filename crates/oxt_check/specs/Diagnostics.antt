@@ -13,7 +13,7 @@ use Rattle.oxt_grammar.specs.declared.holds.Holds.{Holds}
 use Rattle.oxt_grammar.specs.declared.holds.Holds.TheVariants as holds
 use Rattle.oxt_grammar.specs.declared.kind.Kind.{Kind}
 use Rattle.oxt_grammar.specs.declared.kind.Kind.TheVariants as kind
-use Rattle.oxt_modules.specs.Aliases.{is_required}
+use Rattle.oxt_declares.specs.Imports.{is_required}
 use Rattle.oxt_options.specs.Options.{TransformData}
 use Rattle.oxt_options.specs.declared.options.Module.{Module}
 use Rattle.oxt_options.specs.declared.options.Module.TheVariants as «module»

@@ -10,9 +10,9 @@ ghost use Rattle.oxt_declares.specs.Dropped.{keeps_decorators};
 
 use crate::seat::Seat;
 use oxt_declares::dropped::keeps_decorators;
+use oxt_declares::imports::is_required;
 use oxt_grammar::field::Field;
 use oxt_grammar::kind::Kind;
-use oxt_modules::alias::is_required;
 use oxt_options::plan::Plan;
 use oxt_options::{Module, TransformOptions};
 use oxt_tree::tree::Node;

@@ -8,7 +8,7 @@ use Rattle.oxt_faults.specs.declared.reach.Reach.TheVariants as reach
 use Rattle.oxt_fields.specs.Classes.{is_super_call, statements_of}
 use Rattle.oxt_search.specs.First.{first_among, first_in}
 use Rattle.oxt_search.specs.Sought.{Sought}
-use Rattle.oxt_search.specs.declared.search.Inside.TheVariants as inside
+use Rattle.oxt_tree.specs.declared.inside.Inside.TheVariants as inside
 use Rattle.oxt_grammar.specs.Places.{same_kind}
 use Rattle.oxt_grammar.specs.declared.kind.Kind.{Kind}
 use Rattle.oxt_grammar.specs.declared.kind.Kind.TheVariants as kind

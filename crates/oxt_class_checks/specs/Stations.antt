@@ -1,11 +1,11 @@
 -- Where a search for the decorators of a class declaration that go behind it is.
 use Rattle.std.specs.Prelude.{Bool, ◌&&◌, if◌then◌else◌, Option, None, Some, codes}
 use Rattle.std.specs.Str.{bytes_eq}
-use Rattle.oxt_decorated.specs.Calls.{is_called, is_constructor}
+use Rattle.oxt_declares.specs.Calls.{is_called, is_constructor}
 use Rattle.oxt_class_checks.specs.declared.station.Station.{Station}
 use Rattle.oxt_class_checks.specs.declared.station.Station.TheVariants as station
-use Rattle.oxt_search.specs.declared.search.Inside.{Inside}
-use Rattle.oxt_search.specs.declared.search.Inside.TheVariants as inside
+use Rattle.oxt_tree.specs.declared.inside.Inside.{Inside}
+use Rattle.oxt_tree.specs.declared.inside.Inside.TheVariants as inside
 use Rattle.oxt_grammar.specs.Field.{Field}
 use Rattle.oxt_grammar.specs.Places.{same_kind}
 use Rattle.oxt_grammar.specs.declared.kind.Kind.{Kind}

@@ -8,7 +8,7 @@ ghost use Rattle.oxt_tree.specs.View.{docs_in, node_doc};
 use crate::classes::class_declarations;
 use crate::private::first_private;
 use crate::station::{Station, station_in, station_inside};
-use oxt_decorated::class::elements_of;
+use oxt_declares::class::elements_of;
 use oxt_decorated::private_in::holds_private_in;
 use oxt_faults::earliest::{MovedName, earlier, of_word};
 use oxt_faults::level::first_level_word_in;

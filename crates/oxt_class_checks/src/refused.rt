@@ -20,10 +20,10 @@ use oxt_fields::class::elements_of;
 use oxt_fields::rules::FieldRules;
 use oxt_grammar::field::Field;
 use oxt_grammar::kind::Kind;
-use oxt_modules::nodes::NodeList;
 use oxt_names::ids::{NodeId, OutOfMemory};
 use oxt_names::name::Name;
 use oxt_names::uid::UidNames;
+use oxt_options::nodes::NodeList;
 use oxt_tree::tree::{Node, Part};
 use std::alloc::Global;
 

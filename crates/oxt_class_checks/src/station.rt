@@ -4,8 +4,8 @@ ghost use Rattle.oxt_class_checks.specs.Stations.{class_station, element_inside,
 ghost use Rattle.oxt_grammar.specs.Field.{row_view};
 ghost use Rattle.oxt_tree.specs.View.{docs_in};
 
-use oxt_decorated::calls::is_called;
-use oxt_decorated::class::is_constructor;
+use oxt_declares::calls::is_called;
+use oxt_declares::class::is_constructor;
 use oxt_grammar::field::Field;
 use oxt_grammar::holds::Row;
 use oxt_grammar::kind::Kind;

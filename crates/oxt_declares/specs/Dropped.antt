@@ -8,8 +8,8 @@ use Rattle.oxt_grammar.specs.declared.category.Category.TheVariants as category
 use Rattle.oxt_grammar.specs.declared.field.Field.TheVariants as field
 use Rattle.oxt_grammar.specs.declared.kind.Kind.{Kind}
 use Rattle.oxt_grammar.specs.declared.kind.Kind.TheVariants as kind
-use Rattle.oxt_search.specs.declared.search.Inside.{Inside}
-use Rattle.oxt_search.specs.declared.search.Inside.TheVariants as inside
+use Rattle.oxt_tree.specs.declared.inside.Inside.{Inside}
+use Rattle.oxt_tree.specs.declared.inside.Inside.TheVariants as inside
 use Rattle.oxt_tree.specs.Doc.{Doc, nil, flag, number, text, list, node, Docs}
 use Rattle.oxt_tree.specs.Fields.{is_set, named}
 use Rattle.oxt_tree.specs.Syntax.{is_erased}

@@ -1,7 +1,9 @@
 pub mod Bare
+pub mod Calls
 pub mod Declarations
 pub mod Declares
 pub mod Dropped
+pub mod Imports
 pub mod Languages
 pub mod RoleOf
 pub mod TypesAlone

@@ -7,7 +7,7 @@ use crate::types_alone::is_node_of_types;
 use oxt_grammar::category::Category;
 use oxt_grammar::field::Field;
 use oxt_grammar::kind::Kind;
-use oxt_search::search::Inside;
+use oxt_tree::inside::Inside;
 use oxt_tree::tree::{Node, Part};
 
 /// Whether the node is a declaration or an element of a class that stands for nothing at run time: by

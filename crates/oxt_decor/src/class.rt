@@ -39,7 +39,7 @@ use oxt_ctx::maybe::MaybeBoundIdentifier;
 use oxt_ctx::nodes::{assignment, binding, statement, this_expression};
 use oxt_ctx::parts::{child_mut, put_field};
 use oxt_ctx::uid::create_uid_var;
-use oxt_decorated::class::is_constructor;
+use oxt_declares::class::is_constructor;
 use oxt_grammar::field::Field;
 use oxt_names::flags::ReferenceFlags;
 use oxt_names::ids::{NodeId, OutOfMemory};

@@ -32,7 +32,7 @@ use crate::types::{parameters_expression, type_expression};
 use oxt_ctx::context::TraverseCtx;
 use oxt_ctx::helper::{Helper, helper_call_expr};
 use oxt_ctx::nodes::string_literal;
-use oxt_decorated::calls::{is_called, is_decorated};
+use oxt_declares::calls::{is_called, is_decorated};
 use oxt_fields::class::{constructor_of, elements_of};
 use oxt_metadata::typing::{design_of, returned_by};
 use oxt_names::ids::OutOfMemory;

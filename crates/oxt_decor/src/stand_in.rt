@@ -25,7 +25,7 @@ use crate::parts::{as_node, elements_mut};
 use indexmap::IndexSet;
 use oxt_ctx::nodes::{make, private_name};
 use oxt_ctx::parts::{list_mut, put_field, take_node};
-use oxt_decorated::calls::is_called;
+use oxt_declares::calls::is_called;
 use oxt_grammar::field::Field;
 use oxt_grammar::kind::Kind;
 use oxt_names::ids::{NodeIds, OutOfMemory};
@@ -86,7 +86,7 @@ fn is_hidden(element: &Node) -> bool {
 
 /// Makes the field one that stands for it.
 fn hide(alloc: Global, field: &mut Node, ids: &mut NodeIds) -> Result<(), OutOfMemory> {
-    let hidden = hidden_parts(alloc, field, ids)?;
+    let hidden = hidden_decorator(alloc, field, ids)?;
     if let Some(decorators) = list_mut(field, Field::Decorators) {
         decorators.push(Part::Node(hidden))?;
     }
@@ -98,7 +98,11 @@ fn hide(alloc: Global, field: &mut Node, ids: &mut NodeIds) -> Result<(), OutOfM
 }
 
 /// Takes the key and the value of the field into a decorator.
-fn hidden_parts(alloc: Global, field: &mut Node, ids: &mut NodeIds) -> Result<Node, OutOfMemory> {
+fn hidden_decorator(
+    alloc: Global,
+    field: &mut Node,
+    ids: &mut NodeIds,
+) -> Result<Node, OutOfMemory> {
     let mut parts = Vec::new(alloc);
     push_taken(&mut parts, take_node(field, Field::Key))?;
     push_taken(&mut parts, take_node(field, Field::Value))?;

@@ -12,7 +12,7 @@ use crate::names::use_of;
 use oxt_ctx::context::TraverseCtx;
 use oxt_ctx::maybe::MaybeBoundIdentifier;
 use oxt_ctx::nodes::{alternative, array, make, member, property_name, string_literal, void_zero};
-use oxt_decorated::class::parameters_of;
+use oxt_declares::class::parameters_of;
 use oxt_grammar::kind::Kind;
 use oxt_metadata::name::{node_numbered, path_of, root_of};
 use oxt_metadata::typing::{Typing, parameter_typing, rest_of, typed, typing_in};

@@ -1,4 +1,3 @@
-pub mod Calls
 pub mod PrivateIn
 pub mod Statics
 pub mod Storage

@@ -1,14 +1,14 @@
 -- Decorators that ask for private names.
 use Rattle.std.specs.Prelude.{ℕ, Bool, true, not, ◌&&◌, ◌||◌, if◌then◌else◌, is_some, Option, None, Some, codes}
 use Rattle.std.specs.List.{list_any}
-use Rattle.oxt_decorated.specs.Calls.{decorators_of, elements_of, parameters_of}
+use Rattle.oxt_declares.specs.Calls.{decorators_of, elements_of, parameters_of}
 use Rattle.oxt_grammar.specs.Places.{same_kind}
 use Rattle.oxt_grammar.specs.declared.kind.Kind.{Kind}
 use Rattle.oxt_grammar.specs.declared.kind.Kind.TheVariants as kind
 use Rattle.oxt_search.specs.First.{first_among}
 use Rattle.oxt_search.specs.Sought.{Sought}
-use Rattle.oxt_search.specs.declared.search.Inside.{Inside}
-use Rattle.oxt_search.specs.declared.search.Inside.TheVariants as inside
+use Rattle.oxt_tree.specs.declared.inside.Inside.{Inside}
+use Rattle.oxt_tree.specs.declared.inside.Inside.TheVariants as inside
 use Rattle.oxt_tree.specs.Doc.{Doc, Docs}
 use Rattle.oxt_tree.specs.Fields.{docs_list, field_of, is_kind, is_set}
 use Rattle.oxt_names.specs.declared.ids.NodeId.{NodeId}

@@ -4,7 +4,7 @@ ghost use Rattle.std.specs.List.{list_any};
 ghost use Rattle.oxt_decorated.specs.PrivateIn.{asks, asks_inside, hold_private_in, holds_private_in, is_declared, live_inside, number_of, private_in_at, private_ins};
 ghost use Rattle.oxt_tree.specs.View.{docs_in, node_doc, part_doc};
 
-use crate::class::{elements_of, parameters_of};
+use oxt_declares::class::{elements_of, parameters_of};
 use oxt_declares::dropped::{inside_dropped, is_dropped};
 use oxt_grammar::field::Field;
 use oxt_grammar::holds::Row;

@@ -33,7 +33,7 @@ use Rattle.oxt_scoping.specs.declared.entry.Reference.{Reference}
 use Rattle.oxt_search.specs.All.{all_in, given, given_inside}
 use Rattle.oxt_search.specs.All as every
 use Rattle.oxt_search.specs.First.{first}
-use Rattle.oxt_search.specs.declared.search.Inside.TheVariants as inside
+use Rattle.oxt_tree.specs.declared.inside.Inside.TheVariants as inside
 use Rattle.oxt_names.specs.declared.ids.SymbolId.{SymbolId}
 use Rattle.oxt_grammar.specs.Field.{Field}
 use Rattle.oxt_grammar.specs.Places.{same_kind}

@@ -9,7 +9,7 @@ use Rattle.oxt_enum_checks.specs.declared.places.Reach.{Reach}
 use Rattle.oxt_enum_checks.specs.declared.places.Reach.TheVariants as reach
 use Rattle.oxt_search.specs.All.{all_in}
 use Rattle.oxt_search.specs.Sought.{Sought}
-use Rattle.oxt_search.specs.declared.search.Inside.TheVariants as inside
+use Rattle.oxt_tree.specs.declared.inside.Inside.TheVariants as inside
 use Rattle.oxt_grammar.specs.declared.kind.Kind.{Kind}
 use Rattle.oxt_grammar.specs.declared.kind.Kind.TheVariants as kind
 use Rattle.oxt_tree.specs.Doc.{Doc}

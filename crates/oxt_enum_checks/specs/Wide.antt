@@ -6,7 +6,7 @@ use Rattle.oxt_scoping.specs.Entries.{SymbolData}
 use Rattle.oxt_scoping.specs.Scoped.{Scoped, at_node}
 use Rattle.oxt_search.specs.First.{first_in}
 use Rattle.oxt_search.specs.Sought.{Sought}
-use Rattle.oxt_search.specs.declared.search.Inside.TheVariants as inside
+use Rattle.oxt_tree.specs.declared.inside.Inside.TheVariants as inside
 use Rattle.oxt_names.specs.Constant.{Constant, integer, string}
 use Rattle.oxt_constant.specs.Integer.{largest}
 use Rattle.oxt_grammar.specs.Places.{same_kind}

@@ -2,7 +2,7 @@
 use Rattle.std.specs.Prelude.{ℕ, List, Bool, false, not, ◌&&◌, ◌||◌, if◌then◌else◌, Option, None, Some, option_map, codes}
 use Rattle.std.specs.Option.{option_or}
 use Rattle.std.specs.Str.{bytes_eq}
-use Rattle.oxt_decorated.specs.Calls.{is_called, is_decorated}
+use Rattle.oxt_declares.specs.Calls.{is_called, is_decorated}
 use Rattle.oxt_faults.specs.Around.{is_class}
 use Rattle.oxt_faults.specs.Captured.{Capture, emits_at}
 use Rattle.oxt_faults.specs.Globals.{global_taken, no_globals, with_globals}
@@ -16,14 +16,14 @@ use Rattle.oxt_grammar.specs.Field.{Field}
 use Rattle.oxt_grammar.specs.Places.{same_kind}
 use Rattle.oxt_grammar.specs.declared.kind.Kind.{Kind}
 use Rattle.oxt_grammar.specs.declared.kind.Kind.TheVariants as kind
-use Rattle.oxt_modules.specs.Aliases.{is_required}
+use Rattle.oxt_declares.specs.Imports.{is_required}
 use Rattle.oxt_names.specs.declared.ids.ScopeId.{ScopeId}
 use Rattle.oxt_options.specs.Metadata.{text_of_global}
 use Rattle.oxt_scoping.specs.Scoped.{Scoped, at_node}
 use Rattle.oxt_search.specs.First.{first_in}
 use Rattle.oxt_search.specs.Sought.{Sought}
-use Rattle.oxt_search.specs.declared.search.Inside.{Inside}
-use Rattle.oxt_search.specs.declared.search.Inside.TheVariants as inside
+use Rattle.oxt_tree.specs.declared.inside.Inside.{Inside}
+use Rattle.oxt_tree.specs.declared.inside.Inside.TheVariants as inside
 use Rattle.oxt_tree.specs.Doc.{Doc, node, Docs}
 use Rattle.oxt_tree.specs.Fields.{field_of, is_set, is_text, named}
 use Rattle.oxt_declares.specs.Dropped.{inside_dropped_by, is_dropped_by}

@@ -1,7 +1,7 @@
 -- The global names that metadata has of its own, where they would mean a declaration.
 use Rattle.std.specs.Prelude.{Bool, false, not, ◌||◌, if◌then◌else◌, Option, None, Some}
 use Rattle.std.specs.Option.{option_or}
-use Rattle.oxt_decorated.specs.Calls.{parameters_of}
+use Rattle.oxt_declares.specs.Calls.{parameters_of}
 use Rattle.oxt_faults.specs.Captured.{emits_at}
 use Rattle.oxt_faults.specs.declared.globals.Globals.{Globals}
 use Rattle.oxt_fields.specs.Classes.{constructor_in, elements_of}

@@ -9,11 +9,11 @@ use Rattle.oxt_faults.specs.declared.misplaced.MisplacedKind.TheVariants as misp
 use Rattle.oxt_faults.specs.declared.seat.Seat.{Seat}
 use Rattle.oxt_faults.specs.declared.seat.Seat.TheVariants as seat
 use Rattle.oxt_fields.specs.Rules.{Rules}
-use Rattle.oxt_modules.specs.Aliases.{is_alias}
+use Rattle.oxt_declares.specs.Imports.{is_alias}
 use Rattle.oxt_search.specs.First.{first_in}
 use Rattle.oxt_search.specs.Sought.{Sought}
-use Rattle.oxt_search.specs.declared.search.Inside.{Inside}
-use Rattle.oxt_search.specs.declared.search.Inside.TheVariants as inside
+use Rattle.oxt_tree.specs.declared.inside.Inside.{Inside}
+use Rattle.oxt_tree.specs.declared.inside.Inside.TheVariants as inside
 use Rattle.oxt_grammar.specs.Kinds.{is_typescript_kind}
 use Rattle.oxt_grammar.specs.Places.{kind_in, same_kind}
 use Rattle.oxt_grammar.specs.declared.category.Category.TheVariants as category

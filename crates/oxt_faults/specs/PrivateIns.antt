@@ -2,7 +2,7 @@
 use Rattle.std.specs.Prelude.{ℕ, Bool, true, if◌then◌else◌, Option, None, Some, is_some}
 use Rattle.oxt_search.specs.First.{first_among}
 use Rattle.oxt_search.specs.Sought.{Sought}
-use Rattle.oxt_search.specs.declared.search.Inside.TheVariants as inside
+use Rattle.oxt_tree.specs.declared.inside.Inside.TheVariants as inside
 use Rattle.oxt_grammar.specs.Places.{same_kind}
 use Rattle.oxt_grammar.specs.declared.kind.Kind.{Kind}
 use Rattle.oxt_grammar.specs.declared.kind.Kind.TheVariants as kind

@@ -10,7 +10,7 @@ use Rattle.oxt_metadata.specs.Meant.{meant}
 use Rattle.oxt_scoping.specs.Scoped.{Scoped}
 use Rattle.oxt_search.specs.First.{first_in}
 use Rattle.oxt_search.specs.Sought.{Sought}
-use Rattle.oxt_search.specs.declared.search.Inside.TheVariants as inside
+use Rattle.oxt_tree.specs.declared.inside.Inside.TheVariants as inside
 use Rattle.oxt_tree.specs.Doc.{Doc, Docs}
 use Rattle.oxt_tree.specs.Fields.{named, text_in}
 

@@ -6,7 +6,7 @@ ghost use Rattle.oxt_metadata.specs.Typings.{typing_view};
 ghost use Rattle.oxt_tree.specs.View.{docs_in, node_doc};
 
 use crate::free::is_taken_in;
-use oxt_decorated::class::parameters_of;
+use oxt_declares::class::parameters_of;
 use oxt_fields::class::{constructor_of, elements_of};
 use oxt_fields::rules::FieldRules;
 use oxt_grammar::kind::Kind;

@@ -4,8 +4,8 @@ ghost use Rattle.oxt_faults.specs.Captured.{emits, emits_at, emits_beside, emits
 ghost use Rattle.oxt_options.specs.Facts.{is_in};
 ghost use Rattle.oxt_faults.specs.Marks.{captured_symbols, emitting_symbols, mark_at};
 
-use oxt_modules::nodes::NodeList;
 use oxt_names::ids::{OutOfMemory, ScopeId, SymbolId};
+use oxt_options::nodes::NodeList;
 use oxt_scoping::entry::Redeclaration;
 use oxt_scoping::scoping::Scoping;
 use std::alloc::Global;

@@ -11,11 +11,11 @@ use crate::misplaced::MisplacedKind;
 use crate::private_in::holds_private_in;
 use crate::seat::Seat;
 use oxt_declares::dropped::is_dropped;
+use oxt_declares::imports::is_alias;
 use oxt_fields::rules::FieldRules;
 use oxt_grammar::category::Category;
 use oxt_grammar::field::Field;
 use oxt_grammar::kind::Kind;
-use oxt_modules::alias::is_alias;
 use oxt_names::ids::NodeId;
 use oxt_tree::tree::{Node, Part};
 

@@ -2,7 +2,7 @@
 use Rattle.std.specs.Prelude.{ℕ, List, [], ◌∷◌, ◌++◌, Bool, true, false, not, ◌&&◌, ◌||◌, ◌==◌, nat_eq, if◌then◌else◌, Option, None, Some, codes}
 use Rattle.std.specs.List.{list_any}
 use Rattle.std.specs.Str.{bytes_eq}
-use Rattle.oxt_decorated.specs.Calls.{elements_of, is_constructor, is_decorated}
+use Rattle.oxt_declares.specs.Calls.{elements_of, is_constructor, is_decorated}
 use Rattle.oxt_fields.specs.Fates.{fate_by}
 use Rattle.oxt_fields.specs.Rules.{Rules}
 use Rattle.oxt_fields.specs.Written.{meant}
@@ -19,8 +19,8 @@ use Rattle.oxt_names.specs.declared.ids.SymbolId.{SymbolId}
 use Rattle.oxt_scoping.specs.Scoped.{Scoped, at_node}
 use Rattle.oxt_search.specs.All.{all_among, all_in}
 use Rattle.oxt_search.specs.Sought.{Sought}
-use Rattle.oxt_search.specs.declared.search.Inside.{Inside}
-use Rattle.oxt_search.specs.declared.search.Inside.TheVariants as inside
+use Rattle.oxt_tree.specs.declared.inside.Inside.{Inside}
+use Rattle.oxt_tree.specs.declared.inside.Inside.TheVariants as inside
 use Rattle.oxt_tree.specs.Doc.{Doc, nil, flag, number, text, list, node, Docs}
 use Rattle.oxt_tree.specs.Fields.{field_of}
 use Rattle.oxt_declares.specs.Dropped.{inside_dropped_by, is_declared_field, is_dropped_by}

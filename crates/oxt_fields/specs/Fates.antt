@@ -2,7 +2,7 @@
 use Rattle.std.specs.Prelude.{ℕ, List, [], ◌∷◌, Bool, true, false, not, ◌&&◌, ◌||◌, if◌then◌else◌, Option, None, Some, codes}
 use Rattle.std.specs.List.{list_any}
 use Rattle.std.specs.Option.{is_some, option_or}
-use Rattle.oxt_decorated.specs.Calls.{has_any, is_called}
+use Rattle.oxt_declares.specs.Calls.{has_any, is_called}
 use Rattle.oxt_fields.specs.Rules.{Rules}
 use Rattle.oxt_fields.specs.declared.fate.Fate.{Fate}
 use Rattle.oxt_fields.specs.declared.fate.Fate.TheVariants as fates

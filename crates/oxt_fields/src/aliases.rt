@@ -11,8 +11,8 @@ ghost use Rattle.oxt_tree.specs.View.{doc_of_part, docs_in, node_doc, part_doc};
 
 use crate::alias::push_class_uses;
 use crate::rules::FieldRules;
+use oxt_declares::calls::is_decorated;
 use oxt_declares::dropped::{is_declared_field, is_dropped};
-use oxt_decorated::calls::is_decorated;
 use oxt_grammar::field::Field;
 use oxt_grammar::holds::Row;
 use oxt_names::ids::{NodeId, OutOfMemory};

@@ -8,8 +8,8 @@ ghost use Rattle.oxt_tree.specs.Fields.{named};
 ghost use Rattle.oxt_tree.specs.View.{docs_in, node_doc, part_doc};
 
 use crate::rules::FieldRules;
-use oxt_decorated::calls::is_called;
-use oxt_decorated::class::has_any;
+use oxt_declares::calls::is_called;
+use oxt_declares::class::has_any;
 use oxt_grammar::category::Category;
 use oxt_grammar::field::Field;
 use oxt_grammar::kind::Kind;

@@ -12,8 +12,8 @@ use Rattle.oxt_options.specs.Options.{TypeScriptData}
 use Rattle.oxt_scoping.specs.Scoped.{Scoped}
 use Rattle.oxt_search.specs.All.{all_in}
 use Rattle.oxt_search.specs.Sought.{Sought}
-use Rattle.oxt_search.specs.declared.search.Inside.{Inside}
-use Rattle.oxt_search.specs.declared.search.Inside.TheVariants as inside
+use Rattle.oxt_tree.specs.declared.inside.Inside.{Inside}
+use Rattle.oxt_tree.specs.declared.inside.Inside.TheVariants as inside
 use Rattle.oxt_tree.specs.Doc.{Doc, Docs}
 use Rattle.oxt_tree.specs.Fields.{named}
 use Rattle.oxt_tree.specs.Syntax.{is_definition_file}

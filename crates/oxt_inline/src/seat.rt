@@ -9,8 +9,8 @@ use oxt_grammar::category::Category;
 use oxt_grammar::field::Field;
 use oxt_grammar::holds::Row;
 use oxt_grammar::kind::Kind;
-use oxt_modules::nodes::NodeList;
 use oxt_names::ids::NodeId;
+use oxt_options::nodes::NodeList;
 
 /// What a node stands as.
 #[derive(Clone, Copy)]

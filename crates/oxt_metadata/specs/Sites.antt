@@ -1,7 +1,7 @@
 -- Where the annotations stand of which metadata tells.
 use Rattle.std.specs.Prelude.{ℕ, List, Bool, true, false, not, ◌&&◌, ◌||◌, if◌then◌else◌, Option, None, Some, codes}
 use Rattle.std.specs.Str.{bytes_eq}
-use Rattle.oxt_decorated.specs.Calls.{is_called, is_constructor, is_decorated}
+use Rattle.oxt_declares.specs.Calls.{is_called, is_constructor, is_decorated}
 use Rattle.oxt_grammar.specs.Field.{Field}
 use Rattle.oxt_grammar.specs.Places.{same_kind}
 use Rattle.oxt_grammar.specs.declared.kind.Kind.{Kind}
@@ -9,8 +9,8 @@ use Rattle.oxt_grammar.specs.declared.kind.Kind.TheVariants as kind
 use Rattle.oxt_metadata.specs.Typings.{is_awaited}
 use Rattle.oxt_metadata.specs.declared.site.Site.{Site}
 use Rattle.oxt_metadata.specs.declared.site.Site.TheVariants as site
-use Rattle.oxt_search.specs.declared.search.Inside.{Inside}
-use Rattle.oxt_search.specs.declared.search.Inside.TheVariants as inside
+use Rattle.oxt_tree.specs.declared.inside.Inside.{Inside}
+use Rattle.oxt_tree.specs.declared.inside.Inside.TheVariants as inside
 use Rattle.oxt_tree.specs.Doc.{Doc, node, Docs}
 use Rattle.oxt_tree.specs.Fields.{field_of, is_text}
 use Rattle.oxt_names.specs.declared.ids.NodeId.{NodeId}

@@ -1,6 +1,6 @@
 -- From what the metadata of a class and of its elements is written.
 use Rattle.std.specs.Prelude.{ℕ, List, [], ◌∷◌, ◌++◌, map, Bool, ◌||◌, if◌then◌else◌, Option, None, Some, codes}
-use Rattle.oxt_decorated.specs.Calls.{parameters_of}
+use Rattle.oxt_declares.specs.Calls.{parameters_of}
 use Rattle.oxt_grammar.specs.declared.kind.Kind.TheVariants as kind
 use Rattle.oxt_metadata.specs.declared.typing.Typing.{Typing}
 use Rattle.oxt_metadata.specs.declared.typing.Typing.TheVariants as typing

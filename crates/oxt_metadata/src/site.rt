@@ -5,9 +5,9 @@ ghost use Rattle.oxt_metadata.specs.Sites.{called_inside, code_inside, declared_
 ghost use Rattle.oxt_tree.specs.View.{docs_in, node_doc};
 
 use crate::typing::is_awaited;
+use oxt_declares::calls::{is_called, is_decorated};
+use oxt_declares::class::is_constructor;
 use oxt_declares::dropped::{inside_dropped, is_declared_field, is_dropped};
-use oxt_decorated::calls::{is_called, is_decorated};
-use oxt_decorated::class::is_constructor;
 use oxt_grammar::field::Field;
 use oxt_grammar::holds::Row;
 use oxt_grammar::kind::Kind;

@@ -5,7 +5,7 @@ ghost use Rattle.oxt_metadata.specs.Typings.{design_of, function_field, is_await
 ghost use Rattle.oxt_options.specs.Metadata.{type_at};
 ghost use Rattle.oxt_tree.specs.View.{doc_or_nil, docs_in, node_doc, part_doc};
 
-use oxt_decorated::class::parameters_of;
+use oxt_declares::class::parameters_of;
 use oxt_grammar::field::Field;
 use oxt_grammar::kind::Kind;
 use oxt_options::metadata::{GlobalName, MetadataType};

@@ -1,4 +1,3 @@
 pub mod Loops
 pub mod Marks
-pub mod Known
 pub mod Tables

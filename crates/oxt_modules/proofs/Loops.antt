@@ -1,21 +1,14 @@
 -- Lists of numbers that grow by what is kept of one node after another.
 use Rattle.std.proofs.Common.{◌≡◌, ◌∙◌, sym, ap, ℕ, ◌+◌, ◌<◌, ◌≤◌, List, [], ◌∷◌, ◌++◌, Bool, length, get_or, drop, append_assoc, append-nil}
-use Rattle.std.proofs.lemmas.List.{map-append}
 use Rattle.oxt_modules.specs.Aliases.{left_out_name, left_out_names}
 use Rattle.oxt_modules.specs.Kept.{Uses, is_alias_kept, kept_aliases, kept_if, kept_in_list, kept_in_statement, kept_in_statements, kept_specifier}
 use Rattle.oxt_modules.specs.declared.alias.Alias.{Alias}
 use Rattle.oxt_modules.specs.declared.kept.Place.{Place}
 use Rattle.oxt_options.specs.Options.{TypeScriptData}
-use Rattle.oxt_options.specs.Lists.{numbers_in}
 use Rattle.oxt_scoping.specs.Scoped.{Scoped}
 use Rattle.oxt_names.proofs.Lists.{drop_at, drop_end}
 use Rattle.oxt_tree.specs.View.{docs_in, part_doc}
-use Rattle.oxt_names.specs.declared.ids.NodeId.{NodeId}
 use Rattle.oxt_tree.specs.declared.tree.Part.{Part}
-
--- a number more
-pub one_more : (old new : List NodeId) (n : NodeId) → new ≡ old ++ n ∷ [] → numbers_in new ≡ numbers_in old ++ n.0 ∷ []
-one_more old new n is = ap numbers_in is ∙ map-append (λ m. m.0) old (n ∷ [])
 
 -- no statements more
 pub statement_end : (before : List ℕ) (s : Scoped) (o : TypeScriptData) (u : Uses) (ps : List Part) (i : ℕ) → length ps ≤ i → before ++ kept_in_statements s o u (docs_in (drop i ps)) ≡ before

@@ -1,23 +1,15 @@
--- The declarations `import a = ..`.
+-- Which declarations `import a = ..` a program has, and the names of those that are not kept.
 use Rattle.std.specs.Prelude.{ℕ, List, [], ◌∷◌, ◌++◌, Bool, false, not, ◌&&◌, if◌then◌else◌, Option, None, Some, codes}
 use Rattle.oxt_grammar.specs.Places.{same_kind}
 use Rattle.oxt_grammar.specs.declared.kind.Kind.{Kind}
 use Rattle.oxt_grammar.specs.declared.kind.Kind.TheVariants as kind
+use Rattle.oxt_declares.specs.Imports.{is_alias}
 use Rattle.oxt_modules.specs.declared.alias.Alias.{Alias}
 use Rattle.oxt_search.specs.All.{all_in}
 use Rattle.oxt_search.specs.Sought.{Sought}
-use Rattle.oxt_search.specs.declared.search.Inside.TheVariants as inside
+use Rattle.oxt_tree.specs.declared.inside.Inside.TheVariants as inside
 use Rattle.oxt_tree.specs.Doc.{Doc, node, Docs}
-use Rattle.oxt_tree.specs.Fields.{is_kind, named}
-use Rattle.oxt_tree.specs.Syntax.{is_type_only}
-
--- a declaration `import a = ..` that is not of types alone
-abbrev pub is_alias : Kind → Docs → Bool
-is_alias k ds = same_kind k kind.TSImportEqualsDeclaration && not (is_type_only k ds)
-
--- one of a module, as in `import a = require("m")`
-abbrev pub is_required : Kind → Docs → Bool
-is_required k ds = is_alias k ds && is_kind kind.TSExternalModuleReference (named (codes "moduleReference") k ds)
+use Rattle.oxt_tree.specs.Fields.{named}
 
 -- the declaration of that number and of that name; the flag says whether it is exported
 abbrev pub alias_named : Bool → ℕ → Doc → Option Alias

@@ -1,16 +1,18 @@
-//! The declarations `import a = ..`.
+//! Which declarations `import a = ..` a program has, and the names of those that are not kept.
 ghost use Rattle.std.specs.Prelude.{◌≡◌, ◌++◌, IfOk, OnOk, Some};
-ghost use Rattle.oxt_modules.specs.Aliases.{alias_at, alias_named, alias_search, aliases, is_alias, is_required, left_out, left_out_name, left_out_names};
+ghost use Rattle.oxt_modules.specs.Aliases.{alias_at, alias_named, alias_search, aliases, left_out, left_out_name, left_out_names};
+ghost use Rattle.oxt_declares.specs.Imports.{is_alias, is_required};
 ghost use Rattle.oxt_modules.specs.declared.alias.Alias.{Alias};
 ghost use Rattle.oxt_options.specs.Facts.{is_in};
 ghost use Rattle.oxt_options.specs.Lists.{numbers_in};
 ghost use Rattle.oxt_tree.specs.View.{doc_or_nil, docs_in, node_doc};
 
-use crate::nodes::NodeList;
+use oxt_declares::imports::is_alias;
 use oxt_grammar::field::Field;
 use oxt_grammar::holds::Row;
 use oxt_grammar::kind::Kind;
 use oxt_names::ids::{NodeId, OutOfMemory};
+use oxt_options::nodes::NodeList;
 use oxt_search::all::all_in;
 use oxt_search::search::{Inside, Search, Visit};
 use oxt_tree::tree::{Node, Part};
@@ -25,20 +27,6 @@ pub struct Alias {
     pub name: NodeId,
     /// Whether it is exported.
     pub is_exported: bool,
-}
-
-/// Whether the node is a declaration `import a = ..` that is not of types alone.
-pub fn is_alias(node: &Node) -> bool
-    ensures { result ≡ is_alias node.now.kind (docs_in node.now.parts.items) }
-{
-    node.kind.is(Kind::TSImportEqualsDeclaration) && !node.is_type_only()
-}
-
-/// Whether the node is such a declaration of a module, as in `import a = require("m")`.
-pub fn is_required(node: &Node) -> bool
-    ensures { result ≡ is_required node.now.kind (docs_in node.now.parts.items) }
-{
-    is_alias(node) && node.holds_kind(Field::ModuleReference, Kind::TSExternalModuleReference)
 }
 
 /// Such declarations in the program, in the order of the text.
@@ -140,7 +128,7 @@ fn names_left_out(
 }
 
 /// Appends the name of the declaration, unless it is kept.
-#[tactic(auto, using(crate::proofs::Loops::one_more))]
+#[tactic(auto, using(oxt_options::proofs::Known::one_more))]
 fn push_left_out(alias: Alias, kept: &NodeList, names: &mut Vec<NodeId>) -> Result<(), OutOfMemory>
     ensures { OnOk result (numbers_in names.new.items ≡ numbers_in names.old.items
         ++ left_out_name (is_in kept.now) alias) }

@@ -13,13 +13,13 @@ use crate::alias::{Alias, aliases_of};
 use crate::jsx::{JsxUse, is_jsx_name, jsx_use};
 use crate::marked::marked_names;
 use crate::names::{is_declared_again, is_name_kept, is_used};
-use crate::nodes::NodeList;
 use crate::symbols::Symbols;
 use oxt_grammar::field::Field;
 use oxt_grammar::kind::Kind;
 use oxt_metadata::symbols::NamedSymbols;
 use oxt_names::ids::{NodeId, OutOfMemory};
 use oxt_options::TypeScriptOptions;
+use oxt_options::nodes::NodeList;
 use oxt_scoping::scoping::Scoping;
 use oxt_tree::tree::{Node, Part};
 use std::alloc::Global;
@@ -238,7 +238,7 @@ fn push_specifier(
 }
 
 /// Appends the number where that is so.
-#[tactic(auto, using(crate::proofs::Loops::one_more))]
+#[tactic(auto, using(oxt_options::proofs::Known::one_more))]
 fn push_if(is_kept: bool, id: NodeId, out: &mut Vec<NodeId>) -> Result<(), OutOfMemory>
     ensures { OnOk result (numbers_in out.new.items
         ≡ numbers_in out.old.items ++ kept_if is_kept id.0) }

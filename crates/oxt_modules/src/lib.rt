@@ -8,7 +8,6 @@ pub mod jsx;
 pub mod kept;
 pub mod marked;
 pub mod names;
-pub mod nodes;
 pub mod removed;
 pub mod retain;
 pub mod symbols;

@@ -5,15 +5,15 @@ ghost use Rattle.oxt_modules.specs.Names.{declared_symbol, has_value_use, is_use
 ghost use Rattle.oxt_options.specs.Options.{typescript_view};
 ghost use Rattle.oxt_tree.specs.View.{doc_or_nil, docs_in, node_doc, part_doc};
 
-use crate::alias::is_alias;
-use crate::nodes::NodeList;
 use crate::symbols::is_value_use;
 use indexmap::IndexMap;
+use oxt_declares::imports::is_alias;
 use oxt_grammar::field::Field;
 use oxt_grammar::holds::Row;
 use oxt_grammar::kind::Kind;
 use oxt_names::ids::{NodeId, OutOfMemory, ReferenceId, SymbolId};
 use oxt_options::TypeScriptOptions;
+use oxt_options::nodes::NodeList;
 use oxt_scoping::scoping::Scoping;
 use oxt_search::first::first_in;
 use oxt_search::search::{Inside, Search, Visit};

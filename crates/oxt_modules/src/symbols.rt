@@ -5,10 +5,10 @@ ghost use Rattle.oxt_modules.specs.Names.{has_other_value, has_value_use, symbol
 ghost use Rattle.oxt_modules.specs.Marked.{beside, is_use, is_value};
 ghost use Rattle.oxt_modules.specs.Symbols.{IsAnswered, all_asked, asked, declares_besides, first_value, has_another, table_of};
 
-use crate::nodes::NodeList;
 use bitflags::Flags;
 use oxt_names::flags::ReferenceFlags;
 use oxt_names::ids::{NodeId, OutOfMemory, ReferenceId, SymbolId};
+use oxt_options::nodes::NodeList;
 use oxt_scoping::entry::{Redeclaration, Reference};
 use oxt_scoping::scoping::Scoping;
 use std::alloc::Global;

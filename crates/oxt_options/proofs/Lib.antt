@@ -1,4 +1,5 @@
 mod Dots
 pub mod Inserts
+pub mod Known
 mod Made
 mod Tables

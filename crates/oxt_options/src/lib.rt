@@ -3,6 +3,7 @@
 
 pub mod lists;
 pub mod metadata;
+pub mod nodes;
 pub mod options;
 pub mod plan;
 pub mod rewrite;

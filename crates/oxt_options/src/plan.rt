@@ -9,6 +9,7 @@ ghost use Rattle.oxt_options.specs.Metadata.{last_type, type_at};
 
 use crate::lists::PlanLists;
 use crate::metadata::MetadataType;
+use crate::nodes::set_of;
 use indexmap::{IndexMap, IndexSet};
 use oxt_names::constant::ConstantValue;
 use oxt_names::ids::{NodeId, OutOfMemory};
@@ -91,12 +92,18 @@ impl Plan {
         ensures dropped { IfOk result (λ plan. (n : ℕ) → is_in plan.dropped n ≡ is_in (numbers_in lists.now.dropped.items) n) }
         ensures never_written { IfOk result (λ plan. (n : ℕ) → is_in plan.never_written n ≡ is_in (numbers_in lists.now.never_written.items) n) }
     {
+        let (kept, first) = sets_of(alloc, lists.kept.as_slice(), lists.first.as_slice())?;
+        let (dropped, never_written) = sets_of(
+            alloc,
+            lists.dropped.as_slice(),
+            lists.never_written.as_slice(),
+        )?;
         Ok(Plan {
-            kept: set_of(alloc, lists.kept.as_slice())?,
-            first: set_of(alloc, lists.first.as_slice())?,
-            dropped: set_of(alloc, lists.dropped.as_slice())?,
+            kept,
+            first,
+            dropped,
             inlined: IndexMap::new(alloc),
-            never_written: set_of(alloc, lists.never_written.as_slice())?,
+            never_written,
             aliases: IndexMap::new(alloc),
             metadata: IndexMap::new(alloc),
             written: IndexMap::new(alloc),
@@ -231,11 +238,18 @@ impl Plan {
     }
 }
 
-/// The numbers of the nodes.
-fn set_of(alloc: Global, nodes: &[NodeId]) -> Result<IndexSet<u64>, OutOfMemory>
-    ensures { IfOk result (λ set. (n : ℕ) → is_in set.keys n ≡ is_in (numbers_in nodes.now) n) }
+/// The numbers of the nodes of each of two lists.
+fn sets_of(
+    alloc: Global,
+    ones: &[NodeId],
+    others: &[NodeId],
+) -> Result<(IndexSet<u64>, IndexSet<u64>), OutOfMemory>
+    ensures ones { IfOk result (λ sets. (n : ℕ) → is_in sets.0.keys n ≡ is_in (numbers_in ones.now) n) }
+    ensures others { IfOk result (λ sets. (n : ℕ) → is_in sets.1.keys n ≡ is_in (numbers_in others.now) n) }
 {
-    Ok(nodes.iter().map(|node| node.0).collect(alloc)?)
+    let ones = set_of(alloc, ones)?;
+    let others = set_of(alloc, others)?;
+    Ok((ones, others))
 }
 
 /// The constants by the numbers of their nodes.

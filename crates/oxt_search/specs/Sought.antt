@@ -1,6 +1,6 @@
 -- What a search asks of each node, with a state that is handed down.
 use Rattle.std.specs.Prelude.{ℕ, Option}
-use Rattle.oxt_search.specs.declared.search.Inside.{Inside}
+use Rattle.oxt_tree.specs.declared.inside.Inside.{Inside}
 use Rattle.oxt_grammar.specs.Field.{Field}
 use Rattle.oxt_grammar.specs.declared.kind.Kind.{Kind}
 use Rattle.oxt_tree.specs.Doc.{Docs}

@@ -8,23 +8,10 @@ ghost use Rattle.oxt_search.specs.Sought.{Sought};
 ghost use Rattle.oxt_grammar.specs.Field.{row_view};
 ghost use Rattle.oxt_tree.specs.View.{docs_in};
 
-use oxt_grammar::field::Field;
 use oxt_grammar::holds::Row;
 use oxt_grammar::kind::Kind;
+pub use oxt_tree::inside::Inside;
 use oxt_tree::tree::Node;
-
-/// What a search looks at inside a node.
-#[derive(Clone, Copy)]
-pub enum Inside<S> {
-    /// Nothing.
-    Skipped,
-    /// All that is in it, in that state.
-    Alike(S),
-    /// Each field in a state of its own, which follows from that one.
-    ByField(S),
-    /// What that field holds alone, in that state.
-    Only(Field, S),
-}
 
 /// What a search says of a node.
 pub struct Visit<F, S> {

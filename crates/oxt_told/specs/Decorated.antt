@@ -1,6 +1,6 @@
 -- What is told of classes that are decorated, whose elements are, or that take a made name.
 use Rattle.std.specs.Prelude.{ℕ, [], ◌∷◌, Bool, true, false, not, ◌&&◌, ◌||◌, ◌==◌, if◌then◌else◌, Option, None, Some, is_some, codes}
-use Rattle.oxt_decorated.specs.Calls.{calls_any, is_decorated}
+use Rattle.oxt_declares.specs.Calls.{calls_any, is_decorated}
 use Rattle.oxt_decorated.specs.PrivateIn.{holds_private_in}
 use Rattle.oxt_decorated.specs.Statics.{has_static_accessor, has_static_part}
 use Rattle.oxt_facts.specs.Told.{Decorating, Described, Tellings, Use, decorated, default_class, titled, undescribed}
@@ -11,7 +11,7 @@ use Rattle.oxt_grammar.specs.declared.kind.Kind.TheVariants as kind
 use Rattle.oxt_scoping.specs.Scoped.{Scoped}
 use Rattle.oxt_search.specs.First.{first_in}
 use Rattle.oxt_search.specs.Sought.{Sought}
-use Rattle.oxt_search.specs.declared.search.Inside.TheVariants as inside
+use Rattle.oxt_tree.specs.declared.inside.Inside.TheVariants as inside
 use Rattle.oxt_told.specs.Metadata.{class_described}
 use Rattle.oxt_told.specs.Tags.{alias_part, class_use, inner_part, is_nameless, own_use, tag_at, tag_for}
 use Rattle.oxt_told.specs.declared.lowering.Lowering.{Lowering}

@@ -1,6 +1,6 @@
 -- What is told of the metadata of classes and of their elements.
 use Rattle.std.specs.Prelude.{ℕ, List, [], ◌∷◌, ◌++◌, not, if◌then◌else◌, Option, None, Some, option_map}
-use Rattle.oxt_decorated.specs.Calls.{parameters_of}
+use Rattle.oxt_declares.specs.Calls.{parameters_of}
 use Rattle.oxt_facts.specs.Told.{Described, Typed, global_type, named_type, undefined_type, undescribed}
 use Rattle.oxt_fields.specs.Classes.{constructor_in, elements_of}
 use Rattle.oxt_fields.specs.Rules.{Rules}

@@ -1,6 +1,6 @@
 -- What is told of decorators, and of names that are read as the alias of a class or as its inner name.
 use Rattle.std.specs.Prelude.{ℕ, ◌+◌, List, [], ◌∷◌, ◌++◌, Bool, true, false, ◌&&◌, ◌||◌, ◌==◌, if◌then◌else◌, Option, None, Some, codes}
-use Rattle.oxt_decorated.specs.Calls.{is_called}
+use Rattle.oxt_declares.specs.Calls.{is_called}
 use Rattle.oxt_facts.specs.Told.{Tellings, alias, applied, inner}
 use Rattle.oxt_fields.specs.Classes.{elements_of, parameters_of}
 use Rattle.oxt_fields.specs.Rules.{Rules}
@@ -11,7 +11,7 @@ use Rattle.oxt_grammar.specs.declared.kind.Kind.TheVariants as kind
 use Rattle.oxt_scoping.specs.Scoped.{Scoped}
 use Rattle.oxt_search.specs.All.{all_among, all_in}
 use Rattle.oxt_search.specs.Sought.{Sought}
-use Rattle.oxt_search.specs.declared.search.Inside.TheVariants as inside
+use Rattle.oxt_tree.specs.declared.inside.Inside.TheVariants as inside
 use Rattle.oxt_told.specs.Decorated.{default_told}
 use Rattle.oxt_told.specs.Groups.{own_group}
 use Rattle.oxt_told.specs.Symbols.{group_of}

@@ -13,7 +13,7 @@ use crate::lowering::Lowering;
 use crate::metadata::element_described;
 use crate::tags::{callee, object_use, share_use, tag_of_key};
 use crate::told::Source;
-use oxt_decorated::calls::is_called;
+use oxt_declares::calls::is_called;
 use oxt_decorated::storage::storage_text;
 use oxt_facts::told::{
     Told, ToldAccessor, ToldCall, ToldElement, ToldField, ToldNodes, ToldObject, ToldStorage,

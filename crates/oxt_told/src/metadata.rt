@@ -7,7 +7,7 @@ ghost use Rattle.oxt_told.specs.Metadata.{accessor_described, class_described, c
 ghost use Rattle.oxt_tree.specs.View.{docs_in, node_doc};
 
 use crate::told::Source;
-use oxt_decorated::class::parameters_of;
+use oxt_declares::class::parameters_of;
 use oxt_facts::told::{ToldMetadata, ToldReference, ToldType};
 use oxt_fields::class::{constructor_of, elements_of};
 use oxt_grammar::kind::Kind;

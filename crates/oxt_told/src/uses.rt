@@ -19,7 +19,7 @@ use crate::lowering::Lowering;
 use crate::symbols::{group_of, named_symbol};
 use crate::tags::tag_at;
 use crate::told::Source;
-use oxt_decorated::calls::is_called;
+use oxt_declares::calls::is_called;
 use oxt_facts::told::{Told, ToldNodes};
 use oxt_fields::class::{elements_of, parameters_of};
 use oxt_grammar::field::Field;

@@ -5,6 +5,7 @@ pub mod bound;
 pub mod copy;
 pub mod fields;
 pub mod inner;
+pub mod inside;
 pub mod syntax;
 pub mod take;
 pub mod tree;

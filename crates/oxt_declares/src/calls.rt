@@ -1,7 +1,7 @@
 //! Which elements of a class give calls behind it, and which classes are themselves decorated.
 ghost use Rattle.std.specs.Prelude.{◌≡◌};
 ghost use Rattle.std.specs.List.{list_any};
-ghost use Rattle.oxt_decorated.specs.Calls.{calls_any, is_called, is_decorated, is_decorating, is_plain_method};
+ghost use Rattle.oxt_declares.specs.Calls.{calls_any, is_called, is_decorated, is_decorating, is_plain_method};
 ghost use Rattle.oxt_tree.specs.View.{docs_in, node_doc, part_doc};
 
 use crate::class::{decorates_parameter, elements_of, has_decorator, is_constructor};

@@ -81,7 +81,7 @@ impl NodeList {
 }
 
 /// The numbers of the nodes.
-fn set_of(alloc: Global, nodes: &[NodeId]) -> Result<IndexSet<u64>, OutOfMemory>
+pub(crate) fn set_of(alloc: Global, nodes: &[NodeId]) -> Result<IndexSet<u64>, OutOfMemory>
     ensures { IfOk result (λ set. (n : ℕ) → is_in set.keys n ≡ is_in (numbers_in nodes.now) n) }
 {
     Ok(nodes.iter().map(|node| node.0).collect(alloc)?)

@@ -1,12 +1,16 @@
 -- A list of nodes, and the set of its numbers, with one node more.
 use Rattle.std.proofs.Common.{◌≡◌, ◌∙◌, refl, sym, ap, ℕ, List, [], ◌∷◌, ◌++◌, Bool, true, false, cond, ◌||◌, arith}
+use Rattle.std.proofs.lemmas.List.{map-append}
 use Rattle.std.proofs.lemmas.List.Folds.{list_any-append}
 use Rattle.std.specs.Prelude.{nat_eq}
 use Rattle.std.specs.List.{list_any}
-use Rattle.oxt_modules.proofs.Loops.{one_more}
 use Rattle.oxt_options.specs.Facts.{is_in}
 use Rattle.oxt_options.specs.Lists.{numbers_in}
 use Rattle.oxt_names.specs.declared.ids.NodeId.{NodeId}
+
+-- a number more
+pub one_more : (old new : List NodeId) (n : NodeId) → new ≡ old ++ n ∷ [] → numbers_in new ≡ numbers_in old ++ n.0 ∷ []
+one_more old new n is = ap numbers_in is ∙ map-append (λ m. m.0) old (n ∷ [])
 
 same_test : (k n : ℕ) → nat_eq k n ≡ nat_eq n k
 same_test k n = grind arith

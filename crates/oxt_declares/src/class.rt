@@ -1,7 +1,7 @@
 //! The parts of a class, and their decorators.
 ghost use Rattle.std.specs.Prelude.{◌≡◌};
 ghost use Rattle.std.specs.List.{list_any};
-ghost use Rattle.oxt_decorated.specs.Calls.{decorates_parameter, elements_of, has_any, has_decorator, is_constructor, parameters_of};
+ghost use Rattle.oxt_declares.specs.Calls.{decorates_parameter, elements_of, has_any, has_decorator, is_constructor, parameters_of};
 ghost use Rattle.oxt_grammar.specs.Keys.{key_of};
 ghost use Rattle.oxt_tree.specs.Fields.{field_of};
 ghost use Rattle.oxt_tree.specs.View.{doc_or_nil, docs_in, node_doc, part_doc};
