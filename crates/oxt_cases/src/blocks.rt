@@ -1,8 +1,8 @@
 //! Blocks of enums and namespaces.
 
 use crate::pieces::{Piece, put};
-use oxt_enum_checks::clash::first_clash;
 use oxt_enum_checks::first::first_blocks;
+use oxt_enum_checks::merges::merge_faults;
 use oxt_names::ids::{NodeId, OutOfMemory};
 use oxt_resolve::resolve::resolve;
 use oxt_scoping::scoping::Scoping;
@@ -64,7 +64,7 @@ fn put_clash_by(
     scoping: &Scoping,
     lines: &mut String,
 ) -> Result<(), OutOfMemory> {
-    match first_clash(alloc, program, scoping)? {
+    match merge_faults(alloc, program, scoping)?.clash {
         Some(number) => put_number(number.0, lines),
         None => put(lines, &[Piece::Text("-\n")]),
     }

@@ -1,21 +1,37 @@
 -- What a form that does not occur gives to the searches for what is wrong with it: nothing.
-use Rattle.std.proofs.Common.{◌≡◌, ◌∙◌, refl, sym, ap, ℕ, List, [], ◌∷◌, Bool, true, false, not, ◌&&◌, ◌||◌, cond, Option, None, Some, option_map}
+use Rattle.std.proofs.Common.{◌≡◌, ◌∙◌, refl, sym, ap, ℕ, List, [], ◌∷◌, Bool, true, false, not, ◌&&◌, ◌||◌, cond, Option, None, Some, option_map, true≢false}
 use Rattle.std.specs.List.{list_any}
 use Rattle.std.specs.Option.{option_or}
-use Rattle.std.specs.Prelude.{codes}
-use Rattle.oxt_check.specs.Occurring.{makes_names, occurring, occurs}
-use Rattle.oxt_check.proofs.Formless.{AreForms, GivesAtAlone, neither, none_in}
+use Rattle.std.specs.Prelude.{codes, is_none}
+use Rattle.std.specs.Str.{bytes_eq}
+use Rattle.oxt_check.specs.Misplacements.{class_misplacement, of_element}
+use Rattle.oxt_check.specs.Occurring.{has_class, makes_names, occurring, occurs}
+use Rattle.oxt_check.proofs.Formless.{AreForms, GivesAtAlone, GivesNothingIn, GoesIntoIn, GoesOnIn, goes_into, goes_on, idle_in, neither, none_in}
+use Rattle.oxt_class_checks.specs.Class.{class_facts, is_class}
+use Rattle.oxt_class_checks.specs.Misplaced as elements
+use Rattle.oxt_class_checks.specs.Misplaced.{around_inside, fault_in}
+use Rattle.oxt_class_checks.specs.Refused.{refused_accessors}
+use Rattle.oxt_class_checks.specs.declared.class.ClassFacts.{ClassFacts}
+use Rattle.oxt_declares.specs.Dropped.{inside_dropped_by, is_dropped_by, keeps_decorators}
+use Rattle.oxt_faults.specs.Around.{elements_in, no_class}
+use Rattle.oxt_faults.specs.Earliest.{earliest}
 use Rattle.oxt_faults.specs.Free as frees
 use Rattle.oxt_faults.specs.Free.{at_number, free, has_call, made_word, is_static_accessor, nothing_taken, word_of_call}
 use Rattle.oxt_faults.specs.Initializers as initializers
 use Rattle.oxt_faults.specs.Initializers.{initializer_word, is_constant, least, own_word}
 use Rattle.oxt_faults.specs.Level.{level_word}
+use Rattle.oxt_faults.specs.Moved as moved
+use Rattle.oxt_faults.specs.Moved.{capture_by, captured_at, class_capture, field_capture, moved_capture}
+use Rattle.oxt_faults.specs.Redeclared.{is_again, own_names}
+use Rattle.oxt_faults.specs.declared.around.ClassAround.{ClassAround}
 use Rattle.oxt_faults.specs.Namespaces as namespaces
 use Rattle.oxt_faults.specs.Namespaces.{namespace_word}
 use Rattle.oxt_faults.specs.declared.free.FreeWord.{FreeWord}
 use Rattle.oxt_faults.specs.declared.free.FreeWord.TheVariants as word
 use Rattle.oxt_faults.specs.declared.free.Taken.{Taken}
+use Rattle.oxt_fields.specs.Fates.{fate_by, field_fate, is_stored, stored_fate}
 use Rattle.oxt_fields.specs.Rules.{Rules}
+use Rattle.oxt_fields.specs.declared.fate.Fate.TheVariants as fates
 use Rattle.oxt_grammar.specs.Places.{same_kind}
 use Rattle.oxt_grammar.specs.declared.kind.Kind.{Kind}
 use Rattle.oxt_grammar.specs.declared.kind.Kind.TheVariants as kind
@@ -23,11 +39,15 @@ use Rattle.oxt_modules.specs.Aliases.{alias_named, alias_search, left_out, left_
 use Rattle.oxt_declares.specs.Imports.{is_required}
 use Rattle.oxt_scoping.specs.Scoped.{Scoped}
 use Rattle.oxt_search.proofs.Nothing.{either_none}
+use Rattle.oxt_names.specs.declared.ids.SymbolId.{SymbolId}
+use Rattle.oxt_options.specs.Facts.{is_in}
 use Rattle.oxt_search.specs.First.{first}
+use Rattle.oxt_tree.specs.declared.inside.Inside.{Inside}
+use Rattle.oxt_tree.specs.declared.inside.Inside.TheVariants as inside
+use Rattle.oxt_grammar.specs.declared.field.Field.TheVariants as field
 use Rattle.oxt_tree.specs.Doc.{Doc, Docs}
 use Rattle.oxt_tree.specs.Fields.{is_kind, is_set, named}
 use Rattle.oxt_tree.specs.Syntax.{is_type_only}
-use Rattle.oxt_declares.specs.Dropped.{is_dropped_by}
 
 -- ---- of truth values
 
@@ -89,18 +109,18 @@ no_left_out ks d h =
 abbrev makes : Kind → Bool
 makes k = same_kind k kind.TSExportAssignment || (same_kind k kind.TSImportEqualsDeclaration || same_kind k kind.AccessorProperty)
 
--- one of the last three of five
-among_five : (a b c d e : Bool) → (d || (c || e)) ≡ true → (a || (b || (c || (d || (e || false))))) ≡ true
-among_five true b c d e h = refl
-among_five false true c d e h = refl
-among_five false false true d e h = refl
-among_five false false false true e h = refl
-among_five false false false false true h = refl
-among_five false false false false false h = h
+-- one of the last three of the first five
+among_five : (a b c d e more : Bool) → (d || (c || e)) ≡ true → (a || (b || (c || (d || (e || more))))) ≡ true
+among_five true b c d e more h = refl
+among_five false true c d e more h = refl
+among_five false false true d e more h = refl
+among_five false false false true e more h = refl
+among_five false false false false true more h = refl
+among_five false false false false false more h = absurd (true≢false (sym h))
 
 makes_is_form : AreForms makes
 makes_is_form k h =
-    among_five (same_kind k kind.TSEnumMember) (same_kind k kind.TSModuleBlock) (same_kind k kind.TSImportEqualsDeclaration) (same_kind k kind.TSExportAssignment) (same_kind k kind.AccessorProperty) h
+    among_five (same_kind k kind.TSEnumMember) (same_kind k kind.TSModuleBlock) (same_kind k kind.TSImportEqualsDeclaration) (same_kind k kind.TSExportAssignment) (same_kind k kind.AccessorProperty) _ h
 
 none_makes : (ks : List Kind) → list_any (one kind.TSExportAssignment) ks ≡ false → list_any (one kind.TSImportEqualsDeclaration) ks ≡ false → list_any (one kind.AccessorProperty) ks ≡ false → list_any makes ks ≡ false
 none_makes [] e f g = refl
@@ -138,3 +158,109 @@ no_free r s ks d h =
     let three = neither (occurs d kind.TSExportAssignment) (occurs d kind.TSImportEqualsDeclaration || occurs d kind.AccessorProperty) two.1 in
     let four = neither (occurs d kind.TSImportEqualsDeclaration) (occurs d kind.AccessorProperty) three.1 in
     sym (ap first (none_in makes (frees.sought r s ks) makes_is_form (free_alone r s ks two.0) d nothing_taken (none_makes (occurring d) three.0 four.0 four.1)))
+
+-- ---- classes
+
+-- a class, or what may be a field of one
+abbrev class_part : Kind → Bool
+class_part k =
+    (same_kind k kind.ClassDeclaration || same_kind k kind.ClassExpression)
+    || (same_kind k kind.PropertyDefinition || same_kind k kind.AccessorProperty)
+
+-- one of the last four
+among_last : (a p c e : Bool) → ((c || e) || (p || a)) ≡ true → (a || (p || (c || (e || false)))) ≡ true
+among_last true p c e h = refl
+among_last false true c e h = refl
+among_last false false true e h = refl
+among_last false false false true h = refl
+among_last false false false false h = h
+
+part_is_form : AreForms class_part
+part_is_form k h =
+    behind (same_kind k kind.TSEnumMember) _
+    (behind (same_kind k kind.TSModuleBlock) _
+    (behind (same_kind k kind.TSImportEqualsDeclaration) _
+    (behind (same_kind k kind.TSExportAssignment) _
+    (among_last (same_kind k kind.AccessorProperty) (same_kind k kind.PropertyDefinition) (same_kind k kind.ClassDeclaration) (same_kind k kind.ClassExpression) h))))
+
+crossed : (a b c d : Bool) → ((a || b) || (c || d)) ≡ ((a || c) || (b || d))
+crossed true b c d = refl
+crossed false true true d = refl
+crossed false true false d = refl
+crossed false false true d = refl
+crossed false false false d = refl
+
+any_either : (p q : Kind → Bool) (ks : List Kind) → list_any (λ k. p k || q k) ks ≡ (list_any p ks || list_any q ks)
+any_either p q [] = refl
+any_either p q (k ∷ ks) = ap (λ b. (p k || q k) || b) (any_either p q ks) ∙ crossed (p k) (q k) (list_any p ks) (list_any q ks)
+
+has_part : (d : Doc) → list_any class_part (occurring d) ≡ has_class d
+has_part d =
+    any_either (λ k. one kind.ClassDeclaration k || one kind.ClassExpression k) (λ k. one kind.PropertyDefinition k || one kind.AccessorProperty k) (occurring d)
+    ∙ ap (λ b. b || list_any (λ k. one kind.PropertyDefinition k || one kind.AccessorProperty k) (occurring d)) (any_either (one kind.ClassDeclaration) (one kind.ClassExpression) (occurring d))
+    ∙ ap (λ b. (occurs d kind.ClassDeclaration || occurs d kind.ClassExpression) || b) (any_either (one kind.PropertyDefinition) (one kind.AccessorProperty) (occurring d))
+
+-- ---- elements of classes
+
+nothing_outside : (r : Rules) (f : ℕ → Bool) (c : Option ClassFacts) (k : Kind) (i : ℕ) (ds : Docs) → is_none c ≡ true → fault_in r f c k i ds ≡ None
+nothing_outside r f None k i ds on = refl
+nothing_outside r f (Some c) k i ds on = absurd (true≢false (sym on))
+
+-- a class is around no part of another node, where none is around that
+none_either : (b : Bool) (c : Option ClassFacts) → is_none c ≡ true → is_none (cond b c None) ≡ true
+none_either true c on = on
+none_either false c on = refl
+
+none_around : (r : Rules) (c : Option ClassFacts) (k : Kind) (ds : Docs) → is_class k ≡ false → is_none c ≡ true → is_none (around_inside r c k ds) ≡ true
+none_around r c k ds off on =
+    ap (λ b. is_none (cond b (Some (class_facts r k ds)) (cond (same_kind k kind.ClassBody) c None))) off ∙ none_either (same_kind k kind.ClassBody) c on
+
+either_on : (b : Bool) (x y : Inside (Option ClassFacts)) → goes_on is_none x ≡ true → goes_on is_none y ≡ true → goes_on is_none (cond b x y) ≡ true
+either_on true x y e h = e
+either_on false x y e h = h
+
+each_into : (b : Bool) (c : Option ClassFacts) → is_none c ≡ true → goes_into is_none (cond b (Some c) (Some None)) ≡ true
+each_into true c on = on
+each_into false c on = refl
+
+pub no_element : (r : Rules) (d : Doc) → has_class d ≡ false → None ≡ class_misplacement r d
+no_element r d h =
+    sym (ap (λ fs. option_map of_element (first fs)) (idle_in class_part is_none (elements.sought r refused) part_is_form gives goes into d None refl (has_part d ∙ h)))
+  where
+    refused : ℕ → Bool
+    refused = is_in (refused_accessors r d)
+
+    gives : GivesNothingIn class_part is_none (elements.sought r refused)
+    gives c k i ds off on = either_none (is_dropped_by k ds) (fault_in r refused c k i ds) (nothing_outside r refused c k i ds on)
+
+    goes : GoesOnIn class_part is_none (elements.sought r refused)
+    goes c k i ds off on =
+        either_on (is_dropped_by k ds) (inside_dropped_by r.legacy k ds None) (inside.ByField (around_inside r c k ds))
+        (either_on (keeps_decorators r.legacy k ds) (inside.Only field.Decorators None) inside.Skipped refl refl)
+        (none_around r c k ds (neither (is_class k) _ off).0 on)
+
+    into : GoesIntoIn class_part is_none (elements.sought r refused)
+    into c k f off on = each_into (bytes_eq f.name (codes "body")) c on
+
+-- ---- names in fields that move
+
+stays : (r : Rules) (h : Bool) (k : Kind) (ds : Docs) → (same_kind k kind.PropertyDefinition || same_kind k kind.AccessorProperty) ≡ false → fate_by r h k ds ≡ fates.Stays
+stays r h k ds off =
+    let two = neither (same_kind k kind.PropertyDefinition) (same_kind k kind.AccessorProperty) off in
+    ap (λ b. cond (b && not (is_set (named (codes "declare") k ds))) (field_fate r h k ds) (cond (is_stored r k) (stored_fate r h k ds) fates.Stays)) two.0
+    ∙ ap (λ b. cond b (stored_fate r h k ds) fates.Stays) (never r.legacy (same_kind k kind.AccessorProperty) two.1)
+
+pub no_moved : (s : Scoped) (r : Rules) (d : Doc) → has_class d ≡ false → None ≡ moved_capture s r d
+no_moved s r d h =
+    sym (ap earliest (none_in class_part (moved.sought s r again) part_is_form gives d no_class (has_part d ∙ h)))
+  where
+    again : Option SymbolId → Bool
+    again = is_again s (is_in (own_names d))
+
+    other : (a : ClassAround) (k : Kind) (ds : Docs) → class_part k ≡ false → captured_at s r again a k ds ≡ None
+    other a k ds off =
+        let two = neither (same_kind k kind.ClassDeclaration || same_kind k kind.ClassExpression) (same_kind k kind.PropertyDefinition || same_kind k kind.AccessorProperty) off in
+        ap (λ b. cond b (class_capture s r again (elements_in k ds)) (field_capture s r a k ds)) two.0 ∙ ap (capture_by r s a k ds) (stays r a.hoists k ds two.1)
+
+    gives : GivesAtAlone class_part (moved.sought s r again)
+    gives a k i ds off = either_none (is_dropped_by k ds) (captured_at s r again a k ds) (other a k ds off)

@@ -16,7 +16,10 @@ form_kinds =
     kind.TSModuleBlock ∷
     kind.TSImportEqualsDeclaration ∷
     kind.TSExportAssignment ∷
-    kind.AccessorProperty ∷ []
+    kind.AccessorProperty ∷
+    kind.PropertyDefinition ∷
+    kind.ClassDeclaration ∷
+    kind.ClassExpression ∷ []
 
 -- the kind is one of these
 abbrev pub is_form : Kind → Bool
@@ -46,3 +49,9 @@ occurs d k = list_any (λ own. same_kind own k) (occurring d)
 -- a form for which a free name is made without decorators occurs
 abbrev pub makes_names : Doc → Bool
 makes_names d = occurs d kind.TSExportAssignment || (occurs d kind.TSImportEqualsDeclaration || occurs d kind.AccessorProperty)
+
+-- a class, or what may be a field of one, occurs
+abbrev pub has_class : Doc → Bool
+has_class d =
+    (occurs d kind.ClassDeclaration || occurs d kind.ClassExpression)
+    || (occurs d kind.PropertyDefinition || occurs d kind.AccessorProperty)

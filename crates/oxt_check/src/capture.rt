@@ -8,6 +8,7 @@ ghost use Rattle.oxt_faults.specs.Earliest.{moved_view};
 ghost use Rattle.oxt_faults.specs.Free.{free, free_view};
 ghost use Rattle.oxt_faults.specs.Initializers.{initializer_word};
 ghost use Rattle.oxt_faults.specs.Level.{found_view};
+ghost use Rattle.oxt_faults.specs.Moved.{moved_capture};
 ghost use Rattle.oxt_faults.specs.Namespaces.{namespace_word};
 ghost use Rattle.oxt_fields.specs.Rules.{rules_view};
 ghost use Rattle.oxt_modules.specs.Aliases.{left_out};
@@ -29,7 +30,6 @@ use oxt_modules::alias::left_out_names;
 use oxt_names::ids::{NodeId, OutOfMemory};
 use oxt_options::nodes::NodeList;
 use oxt_scoping::scoping::Scoping;
-use oxt_tree::tree::Node;
 use std::alloc::Global;
 
 /// A name that would be captured.
@@ -44,7 +44,7 @@ pub struct NameAt<'a> {
 /// The captured name at the node of the least number: a word in an initializer or a namespace that goes into a function,
 /// a name in a field, a key or a constructor of a class whose fields move, or in a decorator that moves, a name whose
 /// declaration is erased, a free name that is made and has a declaration around it, or the name of an enum at a bare name of a member, which is written by
-/// way of it. Of several at one node it is the first of these. `scoping` is the table of the program, `rules` say how its
+/// way of it. Of several at one node it is the first of these. `scoping` is the table of the program that was surveyed, `rules` say how its
 /// fields are lowered, and `kept` lists what of its imports and exports is kept.
 ///
 /// # Errors
@@ -52,18 +52,17 @@ pub struct NameAt<'a> {
 /// Fails only where memory runs out.
 pub fn first_capture<'a>(
     alloc: Global,
-    program: &'a Node,
+    survey: &Survey<'a>,
     scoping: &'a Scoping,
     rules: FieldRules,
     kept: &NodeList,
 ) -> Result<Option<NameAt<'a>>, OutOfMemory>
     ensures { IfOk result (λ found. option_map name_view found
-        ≡ first_capture scoping.now (rules_view rules.entry) (is_in kept.now) (node_doc program.now)) }
+        ≡ first_capture scoping.now (rules_view rules.entry) (is_in kept.now) (node_doc survey.now.program.now)) }
 {
-    let survey = Survey::of(alloc, program)?;
-    let word = captured_word(alloc, &survey, scoping, rules.legacy)?;
-    let moved = captured_moved(alloc, program, scoping, rules)?;
-    let spelling = captured_spelling(alloc, &survey, scoping, rules, kept)?;
+    let word = captured_word(alloc, survey, scoping, rules.legacy)?;
+    let moved = captured_moved(alloc, survey, scoping, rules)?;
+    let spelling = captured_spelling(alloc, survey, scoping, rules, kept)?;
     Ok(former(word, former(moved, spelling)))
 }
 
@@ -113,16 +112,33 @@ fn word_in_namespace(survey: &Survey, legacy: bool) -> Option<FoundWord>
 /// The first name in what of a class moves: its fields, their keys, and its decorators.
 fn captured_moved<'a>(
     alloc: Global,
-    program: &'a Node,
+    survey: &Survey<'a>,
     scoping: &'a Scoping,
     rules: FieldRules,
 ) -> Result<Option<NameAt<'a>>, OutOfMemory>
     ensures { IfOk result (λ found. option_map name_view found
-        ≡ captured_moved scoping.now (rules_view rules.entry) (node_doc program.now)) }
+        ≡ captured_moved scoping.now (rules_view rules.entry) (node_doc survey.now.program.now)) }
 {
-    let field = of_moved(first_moved_capture(alloc, program, scoping, rules)?);
-    let decorator = of_moved(first_moved_decorator(alloc, rules.legacy, program)?);
+    let field = of_moved(name_in_field(alloc, survey, scoping, rules)?);
+    let decorator = of_moved(first_moved_decorator(alloc, rules.legacy, survey.program)?);
     Ok(former(field, decorator))
+}
+
+/// The first name in a class whose fields move.
+fn name_in_field<'a>(
+    alloc: Global,
+    survey: &Survey<'a>,
+    scoping: &'a Scoping,
+    rules: FieldRules,
+) -> Result<Option<MovedName<'a>>, OutOfMemory>
+    ensures { IfOk result (λ found. option_map moved_view found
+        ≡ moved_capture scoping.now (rules_view rules.entry) (node_doc survey.now.program.now)) }
+{
+    if survey.has_class() {
+        first_moved_capture(alloc, survey.program, scoping, rules)
+    } else {
+        Ok(None)
+    }
 }
 
 /// The first name that would mean another declaration.

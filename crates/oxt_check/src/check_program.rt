@@ -14,6 +14,7 @@ ghost use Rattle.oxt_tree.specs.View.{node_doc};
 use crate::capture::{NameAt, first_capture};
 use crate::fault::Fault;
 use crate::misplacement::first_misplacement;
+use crate::survey::Survey;
 use oxt_enum_checks::first::first_blocks;
 use oxt_enum_checks::wide::first_wide;
 use oxt_faults::misplaced::Misplaced;
@@ -172,13 +173,31 @@ fn check_places(
     ensures refused { IfErr result (λ f. IsThe (refusal_in f)
         (place_fault scoping.now (rules_view rules.entry) (is_in kept.now) (node_doc program.now))) }
 {
-    if let Some(misplaced) = first_misplacement(alloc, program, scoping, rules)? {
+    let survey = Survey::of(alloc, program)?;
+    check_surveyed(alloc, &survey, scoping, rules, kept)
+}
+
+/// The same of a program of which it is known which forms occur in it.
+fn check_surveyed(
+    alloc: Global,
+    survey: &Survey,
+    scoping: &Scoping,
+    rules: FieldRules,
+    kept: &NodeList,
+) -> Result<(), Fault>
+    ensures accepted { OnOk result
+        (place_fault scoping.now (rules_view rules.entry) (is_in kept.now) (node_doc survey.now.program.now) ≡ None) }
+    ensures refused { IfErr result (λ f. IsThe (refusal_in f)
+        (place_fault scoping.now (rules_view rules.entry) (is_in kept.now) (node_doc survey.now.program.now))) }
+{
+    let program = survey.program;
+    if let Some(misplaced) = first_misplacement(alloc, survey, scoping, rules)? {
         return Err(misplaced_fault(alloc, program, misplaced)?);
     }
     if let Some(member) = first_wide(program, scoping, rules.legacy) {
         return Err(Fault::Wide { span: member.span });
     }
-    if let Some(captured) = first_capture(alloc, program, scoping, rules, kept)? {
+    if let Some(captured) = first_capture(alloc, survey, scoping, rules, kept)? {
         return Err(captured_fault(alloc, program, captured)?);
     }
     Ok(())

@@ -6,9 +6,9 @@ ghost use Rattle.oxt_faults.specs.Misplaced.{misplaced_view};
 ghost use Rattle.oxt_fields.specs.Rules.{rules_view};
 ghost use Rattle.oxt_tree.specs.View.{node_doc};
 
+use crate::survey::Survey;
 use oxt_class_checks::misplaced::{ClassFault, MisplacedElement, first_misplaced_element};
-use oxt_enum_checks::clash::first_clash;
-use oxt_enum_checks::late_base::first_late_base;
+use oxt_enum_checks::merges::merge_faults;
 use oxt_enum_checks::misnamed::first_misnamed;
 use oxt_faults::misplaced::{Misplaced, MisplacedKind, first_misplaced};
 use oxt_fields::rules::FieldRules;
@@ -20,23 +20,26 @@ use std::alloc::Global;
 /// The misplaced node of the least number: what stands where it may not, a function or class behind a namespace of its
 /// name, a declaration that does not merge with an earlier one of its name, a member of an enum, or a bare name of one,
 /// that cannot be lowered, and an element of a class that cannot be lowered by the rules of fields. Of several kinds at one
-/// node it is the first in their order. `scoping` is the table of the program.
+/// node it is the first in their order. `scoping` is the table of the program that was surveyed.
 ///
 /// # Errors
 ///
 /// Fails only where memory runs out.
 pub fn first_misplacement(
     alloc: Global,
-    program: &Node,
+    survey: &Survey,
     scoping: &Scoping,
     rules: FieldRules,
 ) -> Result<Option<Misplaced>, OutOfMemory>
     ensures { IfOk result (λ found. option_map misplaced_view found
-        ≡ first_misplacement scoping.now (rules_view rules.entry) (node_doc program.now)) }
+        ≡ first_misplacement scoping.now (rules_view rules.entry) (node_doc survey.now.program.now)) }
 {
-    let named = named_misplacement(alloc, program, scoping, rules.legacy)?;
-    let of_class = class_misplacement(alloc, program, rules)?;
-    Ok(former(first_misplaced(program, rules), former(named, of_class)))
+    let named = named_misplacement(alloc, survey.program, scoping, rules.legacy)?;
+    let of_class = class_misplacement(alloc, survey, rules)?;
+    Ok(former(
+        first_misplaced(survey.program, rules),
+        former(named, of_class),
+    ))
 }
 
 /// The first that names decide.
@@ -49,27 +52,30 @@ fn named_misplacement(
     ensures { IfOk result (λ found. option_map misplaced_view found
         ≡ named_misplacement legacy scoping.now (node_doc program.now)) }
 {
-    let late = first_late_base(alloc, program, scoping)?;
-    let clash = first_clash(alloc, program, scoping)?;
+    let faults = merge_faults(alloc, program, scoping)?;
     let misnamed = first_misnamed(alloc, program, scoping, legacy)?;
     let merged = former(
-        of_kind(MisplacedKind::Merge, clash),
+        of_kind(MisplacedKind::Merge, faults.clash),
         of_kind(MisplacedKind::Enum, misnamed),
     );
-    Ok(former(of_kind(MisplacedKind::Namespace, late), merged))
+    Ok(former(of_kind(MisplacedKind::Namespace, faults.late_base), merged))
 }
 
 /// The first that classes decide.
 fn class_misplacement(
     alloc: Global,
-    program: &Node,
+    survey: &Survey,
     rules: FieldRules,
 ) -> Result<Option<Misplaced>, OutOfMemory>
     ensures { IfOk result (λ found. option_map misplaced_view found
-        ≡ class_misplacement (rules_view rules.entry) (node_doc program.now)) }
+        ≡ class_misplacement (rules_view rules.entry) (node_doc survey.now.program.now)) }
 {
-    let element = first_misplaced_element(alloc, program, rules)?;
-    Ok(of_element(element))
+    if survey.has_class() {
+        let element = first_misplaced_element(alloc, survey.program, rules)?;
+        Ok(of_element(element))
+    } else {
+        Ok(None)
+    }
 }
 
 /// The element of a class, as misplaced.

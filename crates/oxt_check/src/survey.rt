@@ -1,7 +1,7 @@
 //! Which forms that only some programs have occur in a program. Where a form does not, a search for what may be wrong with it
 //! need not be made.
 ghost use Rattle.std.specs.Prelude.{◌≡◌, IfOk};
-ghost use Rattle.oxt_check.specs.Occurring.{form_at, form_kinds, forms, is_form, makes_names, occurring, occurs};
+ghost use Rattle.oxt_check.specs.Occurring.{form_at, form_kinds, forms, has_class, is_form, makes_names, occurring, occurs};
 ghost use Rattle.oxt_grammar.specs.declared.kind.Kind.{Kind};
 ghost use Rattle.oxt_tree.specs.View.{node_doc};
 
@@ -50,6 +50,14 @@ impl<'a> Survey<'a> {
     {
         self.has(Kind::TSExportAssignment)
             || (self.has(Kind::TSImportEqualsDeclaration) || self.has(Kind::AccessorProperty))
+    }
+
+    /// Whether a class occurs, or what may be a field of one.
+    pub fn has_class(&self) -> bool
+        ensures { result ≡ has_class (node_doc self.now.program.now) }
+    {
+        (self.has(Kind::ClassDeclaration) || self.has(Kind::ClassExpression))
+            || (self.has(Kind::PropertyDefinition) || self.has(Kind::AccessorProperty))
     }
 }
 
@@ -105,5 +113,8 @@ fn form_kinds() -> &'static [Kind]
         Kind::TSImportEqualsDeclaration,
         Kind::TSExportAssignment,
         Kind::AccessorProperty,
+        Kind::PropertyDefinition,
+        Kind::ClassDeclaration,
+        Kind::ClassExpression,
     ]
 }

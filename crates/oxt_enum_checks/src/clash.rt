@@ -1,18 +1,18 @@
-//! Declarations of one name that do not merge.
+//! Declarations of one name that do not merge: of each name of which a block of an enum or a namespace emits code, the later one
+//! of the first two declarations that emit code and of which one alone is exported, or one is a block that does not merge with
+//! the other.
 ghost use Rattle.std.specs.Prelude.{◌≡◌, ◌++◌, ◌||◌, IfOk, OnOk, false, is_some, option_map};
-ghost use Rattle.oxt_enum_checks.specs.Clash.{clash_among, clash_by, clash_from, clash_with, clashes, emitted, emitted_as, first_clash, least_clash, lesser, merges};
+ghost use Rattle.oxt_enum_checks.specs.Clash.{clash_among, clash_from, clash_with, clashes, emitted, emitted_as, least_clash, lesser, merges};
 ghost use Rattle.oxt_enum_checks.specs.Sought.{declarations_of, declared_symbol};
 ghost use Rattle.oxt_enum_checks.specs.Places.{places_in};
 ghost use Rattle.oxt_enum_checks.specs.Sort.{is_block};
-ghost use Rattle.oxt_tree.specs.View.{node_doc};
 
 use crate::places::{Place, Places};
 use crate::sort::{Sort, is_base, is_block, is_namespace, sort_of};
-use crate::sought::{Block, Sought, has_blocks, sought_blocks};
+use crate::sought::Block;
 use oxt_names::ids::{NodeId, OutOfMemory};
 use oxt_scoping::entry::Redeclaration;
 use oxt_scoping::scoping::Scoping;
-use oxt_tree::tree::Node;
 use std::alloc::Global;
 
 /// A declaration that emits code.
@@ -24,46 +24,9 @@ pub struct Emitted {
     pub place: Place,
 }
 
-/// The least of the numbers of declarations that clash: of each name of which a block of an enum or a
-/// namespace emits code, the later one of the first two declarations that emit code and of which one
-/// alone is exported, or one is a block that does not merge with the other. `scoping` is the table of
-/// the program.
-///
-/// # Errors
-///
-/// Nothing but want of memory.
-pub fn first_clash(
-    alloc: Global,
-    program: &Node,
-    scoping: &Scoping,
-) -> Result<Option<NodeId>, OutOfMemory>
-    ensures { IfOk result (λ found. option_map (λ node. node.0) found
-        ≡ first_clash scoping.now (node_doc program.now)) }
-{
-    if !has_blocks(scoping) {
-        return Ok(None);
-    }
-    let places = Places::of_tree(alloc, program)?;
-    clash_by(alloc, program, scoping, &places)
-}
-
-/// The same, where these are the declarations of the names of the program.
-fn clash_by(
-    alloc: Global,
-    program: &Node,
-    scoping: &Scoping,
-    places: &Places,
-) -> Result<Option<NodeId>, OutOfMemory>
-    ensures { IfOk result (λ found. option_map (λ node. node.0) found
-        ≡ clash_by (places_in places.now) scoping.now (node_doc program.now)) }
-{
-    let blocks = sought_blocks(alloc, program, scoping, places, Sought::Block)?;
-    least_clash(alloc, scoping, places, blocks.as_slice())
-}
-
 /// The least of the numbers of the first clashes of the names of these blocks.
 #[tactic(auto, using(crate::proofs::Clashes::least_steps))]
-fn least_clash(
+pub(crate) fn least_clash(
     alloc: Global,
     scoping: &Scoping,
     places: &Places,

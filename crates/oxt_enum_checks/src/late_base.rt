@@ -1,57 +1,20 @@
-//! Functions and classes behind a namespace of their name.
+//! Functions and classes that emit code and stand behind a namespace of their name and scope that emits code.
 ghost use Rattle.std.specs.Prelude.{◌≡◌, IfOk, false, option_map};
-ghost use Rattle.oxt_enum_checks.specs.LateBase.{late_among, late_base, late_by, late_from, least_late};
+ghost use Rattle.oxt_enum_checks.specs.LateBase.{late_among, late_from, least_late};
 ghost use Rattle.oxt_enum_checks.specs.Places.{places_in};
-ghost use Rattle.oxt_tree.specs.View.{node_doc};
 
 use crate::clash::{Emitted, all_emitted, declarations_by, lesser};
 use crate::places::Places;
 use crate::sort::{is_base, is_namespace};
-use crate::sought::{Block, Sought, has_blocks, sought_blocks};
+use crate::sought::Block;
 use oxt_names::ids::{NodeId, OutOfMemory};
 use oxt_scoping::entry::Redeclaration;
 use oxt_scoping::scoping::Scoping;
-use oxt_tree::tree::Node;
 use std::alloc::Global;
-
-/// The least of the numbers of functions and classes that emit code and stand behind a namespace of their name and scope
-/// that emits code. `scoping` is the table of the program.
-///
-/// # Errors
-///
-/// Nothing but want of memory.
-pub fn first_late_base(
-    alloc: Global,
-    program: &Node,
-    scoping: &Scoping,
-) -> Result<Option<NodeId>, OutOfMemory>
-    ensures { IfOk result (λ found. option_map (λ node. node.0) found
-        ≡ late_base scoping.now (node_doc program.now)) }
-{
-    if !has_blocks(scoping) {
-        return Ok(None);
-    }
-    let places = Places::of_tree(alloc, program)?;
-    late_by(alloc, program, scoping, &places)
-}
-
-/// The same, where these are the declarations of the names of the program.
-fn late_by(
-    alloc: Global,
-    program: &Node,
-    scoping: &Scoping,
-    places: &Places,
-) -> Result<Option<NodeId>, OutOfMemory>
-    ensures { IfOk result (λ found. option_map (λ node. node.0) found
-        ≡ late_by (places_in places.now) scoping.now (node_doc program.now)) }
-{
-    let blocks = sought_blocks(alloc, program, scoping, places, Sought::Block)?;
-    least_late(alloc, scoping, places, blocks.as_slice())
-}
 
 /// The least of the numbers of the first such functions and classes of the names of these blocks.
 #[tactic(auto, using(crate::proofs::Lates::least_steps))]
-fn least_late(
+pub(crate) fn least_late(
     alloc: Global,
     scoping: &Scoping,
     places: &Places,

@@ -3,10 +3,11 @@
 #![tactic(auto)]
 
 mod around;
-pub mod clash;
+mod clash;
 pub mod first;
-pub mod late_base;
+mod late_base;
 mod members;
+pub mod merges;
 pub mod misnamed;
 mod misused;
 mod places;
