@@ -5,8 +5,7 @@ use oxt_lines::lines::Lines;
 use oxt_lines::stopped::Stopped;
 use oxt_lines::table::Table;
 use oxt_names::ids::NodeId;
-use oxt_resolve::resolve::resolve;
-use oxt_told::groups::groups_of;
+use oxt_resolve::groups::groups_of;
 use std::alloc::Global;
 
 /// The groups of names in trees, by their nodes: of the use of `x` first.
@@ -66,10 +65,8 @@ fn print_groups(
 /// The groups of the names of a tree.
 fn groups_in(alloc: Global, table: &Table, tree: &str) -> Result<NameGroups, Stopped> {
     let program = table.tree(alloc, tree)?;
-    let scoping = resolve(alloc, &program.root, false)?;
-    let groups = groups_of(alloc, &program.root, &scoping);
-    drop(scoping);
-    Ok(groups?)
+    let groups = groups_of(alloc, &program.root, false)?;
+    Ok(groups)
 }
 
 /// A line with the groups of these nodes.

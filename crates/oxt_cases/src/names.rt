@@ -4,16 +4,11 @@ use crate::nodes::nodes_of;
 use crate::pieces::{Piece, put};
 use oxt_declares::declaration::{Declaration, Sight};
 use oxt_declares::declares::declarations_of;
-use oxt_grammar::kind::Kind;
 use oxt_names::ids::OutOfMemory;
 use oxt_scopes::owners::{OwnedName, owners_of};
 use oxt_scopes::usage::Usage;
-use oxt_tree::tree::{Node, Part};
+use oxt_tree::tree::Node;
 use std::alloc::Global;
-use std::collections::BTreeMap;
-
-/// How names are spelled, by the numbers of their nodes.
-type Spellings<'a> = BTreeMap<u64, &'a str>;
 
 /// Puts a line for each name that the tree uses, in the order of the text: the name, the number of the node that opens
 /// the scope of its group, or `-` where the name is free, and `write`, `update` or `type` where it is no mere
@@ -23,19 +18,14 @@ type Spellings<'a> = BTreeMap<u64, &'a str>;
 ///
 /// Fails only where memory runs out.
 pub fn put_owners(alloc: Global, program: &Node, lines: &mut String) -> Result<(), OutOfMemory> {
-    let spellings = spellings_of(alloc, program)?;
     let names = owners_of(alloc, program)?;
-    put_each(&spellings, names.as_slice(), lines)
+    put_each(names.as_slice(), lines)
 }
 
-/// Puts the lines of these names, which are spelled so.
-fn put_each(
-    spellings: &Spellings,
-    names: &[OwnedName],
-    lines: &mut String,
-) -> Result<(), OutOfMemory> {
+/// Puts the lines of these names.
+fn put_each(names: &[OwnedName], lines: &mut String) -> Result<(), OutOfMemory> {
     for owned in names {
-        put_owned(owned, spellings, lines)?;
+        put_owned(owned, lines)?;
     }
     Ok(())
 }
@@ -46,44 +36,27 @@ fn put_each(
 ///
 /// Fails only where memory runs out.
 pub fn put_numbered(alloc: Global, program: &Node, lines: &mut String) -> Result<(), OutOfMemory> {
-    let spellings = spellings_of(alloc, program)?;
     let names = owners_of(alloc, program)?;
-    put_each_numbered(&spellings, names.as_slice(), lines)
+    put_each_numbered(names.as_slice(), lines)
 }
 
 /// Puts the lines of these names, with their numbers.
-fn put_each_numbered(
-    spellings: &Spellings,
-    names: &[OwnedName],
-    lines: &mut String,
-) -> Result<(), OutOfMemory> {
+fn put_each_numbered(names: &[OwnedName], lines: &mut String) -> Result<(), OutOfMemory> {
     for owned in names {
         put(lines, &[Piece::Number(owned.node.0), Piece::Text(" ")])?;
-        put_owned(owned, spellings, lines)?;
+        put_owned(owned, lines)?;
     }
     Ok(())
 }
 
 /// Puts the line of one name.
-fn put_owned(
-    owned: &OwnedName,
-    spellings: &Spellings,
-    lines: &mut String,
-) -> Result<(), OutOfMemory> {
+fn put_owned(owned: &OwnedName, lines: &mut String) -> Result<(), OutOfMemory> {
     let line = [
-        Piece::Text(spelling_in(spellings, owned.node.0)),
+        Piece::Text(owned.name),
         Piece::Maybe(owned.owner.map(|owner| owner.0)),
         Piece::Text(ending_of(owned.usage)),
     ];
     put(lines, &line)
-}
-
-/// How the node of that number is spelled.
-fn spelling_in<'a>(spellings: &Spellings<'a>, number: u64) -> &'a str {
-    match spellings.get(&number) {
-        Some(spelling) => *spelling,
-        None => "?",
-    }
 }
 
 /// What ends the line of a name that is used so.
@@ -94,32 +67,6 @@ fn ending_of(usage: Usage) -> &'static str {
         Usage::ReadWrite => " update\n",
         Usage::Type => " type\n",
     }
-}
-
-/// How the names in the tree are spelled.
-fn spellings_of(alloc: Global, program: &Node) -> Result<Spellings<'_>, OutOfMemory> {
-    let nodes = nodes_of(alloc, program)?;
-    let mut spellings = BTreeMap::new(alloc);
-    spell_each(nodes.as_slice(), &mut spellings)?;
-    Ok(spellings)
-}
-
-/// Notes how each of the nodes is spelled.
-fn spell_each<'a>(nodes: &[&'a Node], spellings: &mut Spellings<'a>) -> Result<(), OutOfMemory> {
-    for node in nodes {
-        spell(node, spellings)?;
-    }
-    Ok(())
-}
-
-/// Notes how the node is spelled, if it is a name that is used.
-fn spell<'a>(node: &'a Node, spellings: &mut Spellings<'a>) -> Result<(), OutOfMemory> {
-    if node.kind.is(Kind::IdentifierReference) {
-        if let Some(Part::Text(name)) = node.parts.first() {
-            spellings.insert(node.id.0, name.as_str())?;
-        }
-    }
-    Ok(())
 }
 
 /// Puts a line for each declaration of each node that opens a scope: the number of that node, the name, and the number

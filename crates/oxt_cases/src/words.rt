@@ -5,14 +5,12 @@ use crate::pieces::{Piece, put};
 use crate::told::told_nodes;
 use oxt_facts::facts::Facts;
 use oxt_facts::item::Item;
-use oxt_facts::owners::NameGroups;
 use oxt_facts::told::ToldNodes;
 use oxt_names::ids::OutOfMemory;
 use oxt_names::uid::UidNames;
 use oxt_options::options::TransformOptions;
+use oxt_resolve::groups::groups_of;
 use oxt_resolve::names::taken_names;
-use oxt_resolve::resolve::resolve;
-use oxt_told::groups::groups_of;
 use oxt_tree::tree::Node;
 use oxt_word::word::word_of;
 use std::alloc::Global;
@@ -74,16 +72,8 @@ fn told_facts(
 ///
 /// Fails only where memory runs out.
 pub fn facts_with(alloc: Global, source: &Node, told: ToldNodes) -> Result<Facts, OutOfMemory> {
-    let groups = groups_in(alloc, source)?;
+    let groups = groups_of(alloc, source, false)?;
     Facts::of_told_source(alloc, told, groups)
-}
-
-/// The groups of the names of the tree.
-fn groups_in(alloc: Global, program: &Node) -> Result<NameGroups, OutOfMemory> {
-    let scoping = resolve(alloc, program, false)?;
-    let groups = groups_of(alloc, program, &scoping);
-    drop(scoping);
-    groups
 }
 
 /// Puts the lines of the word of the output, as that of what was made of the source.
@@ -115,7 +105,7 @@ pub fn facts_of_output(alloc: Global, source: &Node, output: &Node) -> Result<Fa
 
 /// What is known of an output, where these names are made.
 fn facts_by(alloc: Global, names: &UidNames, output: &Node) -> Result<Facts, OutOfMemory> {
-    let groups = groups_in(alloc, output)?;
+    let groups = groups_of(alloc, output, false)?;
     Facts::of_output(alloc, names, groups, output)
 }
 

@@ -1,16 +1,12 @@
 -- Tables of what a list says of numbers.
-use denote.Ref.{Bor}
 use Rattle.std.proofs.Common.{◌≡◌, ◌∙◌, refl, sym, ap, ℕ, ◌+◌, ◌<◌, ◌≤◌, List, [], length, drop, get_or, map, Bool, true, false, cond, Option, Some}
-use Rattle.std.specs.Prelude.{◌==◌, option_map}
+use Rattle.std.specs.Prelude.{◌==◌}
 use Rattle.indexmap.specs.IndexMap.{insert_entry}
 use Rattle.oxt_resolve.specs.Flags.{both, scope_flag}
 use Rattle.oxt_resolve.specs.Gathered.{at_number, gathered, or_this}
 use Rattle.oxt_resolve.specs.Marks.{Mark, flags_in, mark_view, mark_views, marked}
-use Rattle.oxt_resolve.specs.Spellings.{Spelled, name_in, spelled, spelling_view, spelling_views}
 use Rattle.oxt_resolve.specs.declared.marks.Mark.{Mark as Marked}
 use Rattle.oxt_resolve.specs.declared.marks.Marks.{Marks}
-use Rattle.oxt_resolve.specs.declared.spellings.Spelling.{Spelling}
-use Rattle.oxt_resolve.specs.declared.spellings.Spellings.{Spellings}
 use Rattle.oxt_names.specs.declared.flags.ScopeFlags.{ScopeFlags}
 use Rattle.std.proofs.lemmas.Bool.{eqb-true, eq-eqb}
 use Rattle.oxt_scopes.proofs.Tables.{look_insert}
@@ -43,15 +39,6 @@ pub gathered_end : {A B V : Type 0} (number : B → ℕ) (add : V → B → V) (
     → whole ≡ gathered number add s (map view (drop i xs)) n → s ≡ whole
 gathered_end number add view xs i n whole s h so_far = sym (so_far ∙ ap (λ ys. gathered number add s (map view ys) n) (drop_end xs i h))
 
--- the name that is put at a number
-mapped : (b : Bool) (v : Bor (List ℕ)) (o : Option (Bor (List ℕ))) → option_map (λ t. t.now) (cond b (Some v) o) ≡ cond b (Some v.now) (option_map (λ t. t.now) o)
-mapped true v o = refl
-mapped false v o = refl
-
-pub name_put : (n k : ℕ) (v : Bor (List ℕ)) (es new : List (ℕ × Bor (List ℕ))) → new ≡ insert_entry same_numbers es k v
-    → option_map (λ t. t.now) (at_number n new) ≡ cond (n == k) (Some v.now) (option_map (λ t. t.now) (at_number n es))
-name_put n k v es new is = ap (option_map (λ t. t.now)) (at_put n k v es new is) ∙ mapped (n == k) v (at_number n es)
-
 -- the flags that are put at a number
 flags_cased : (b : Bool) (n k : ℕ) (es : List (ℕ × ScopeFlags)) (f : ScopeFlags) → (n == k) ≡ b
     → or_this (scope_flag 0) (cond b (Some (both (or_this (scope_flag 0) (at_number k es)) f)) (at_number n es)) ≡ cond b (both (or_this (scope_flag 0) (at_number n es)) f) (or_this (scope_flag 0) (at_number n es))
@@ -82,20 +69,3 @@ marks_all ms i t h so_far =
     same_function (flags_in t) (marked (mark_views ms)) (λ n. gathered_end (λ (m : Mark). m.node) (λ (f : ScopeFlags) (m : Mark). both f m.flags) mark_view ms i n (marked (mark_views ms) n) (flags_in t n) h (so_far n))
 
 pub ruleset mark_froms = (marks_none, marks_more, marks_all)
-
--- the names from a place on are to come
-abbrev pub NamesFrom : ℕ → List Spelling → Spellings → Type 0
-NamesFrom i ns t = (n : ℕ) → spelled (spelling_views ns) n ≡ gathered (λ (s : Spelled). s.node) (λ o (s : Spelled). Some s.name) (name_in t n) (spelling_views (drop i ns)) n
-
-pub names_none : (ns : List Spelling) (t : Spellings) → t.names.entries ≡ [] → NamesFrom 0 ns t
-names_none ns t empty n = ap (λ es. gathered (λ (s : Spelled). s.node) (λ o (s : Spelled). Some s.name) (option_map (λ b. b.now) (at_number n es)) (spelling_views ns) n) (sym empty)
-
-pub names_more : (ns : List Spelling) (i : ℕ) (m : Spelling) (old new : Spellings) → i < length ns → m ≡ get_or ns i m → ((n : ℕ) → name_in new n ≡ cond (n == m.node.0) (Some m.name.now) (name_in old n)) → NamesFrom i ns old → NamesFrom (i + 1) ns new
-names_more ns i m old new h at put so_far n =
-    gathered_next (λ (s : Spelled). s.node) (λ (o : Option (List ℕ)) (s : Spelled). Some s.name) spelling_view ns i m n (spelled (spelling_views ns) n) (name_in old n) (name_in new n) h at (so_far n) (put n)
-
-pub names_all : (ns : List Spelling) (i : ℕ) (t : Spellings) → length ns ≤ i → NamesFrom i ns t → name_in t ≡ spelled (spelling_views ns)
-names_all ns i t h so_far =
-    same_function (name_in t) (spelled (spelling_views ns)) (λ n. gathered_end (λ (s : Spelled). s.node) (λ (o : Option (List ℕ)) (s : Spelled). Some s.name) spelling_view ns i n (spelled (spelling_views ns) n) (name_in t n) h (so_far n))
-
-pub ruleset name_froms = (names_none, names_more, names_all)

@@ -10,8 +10,7 @@ use Rattle.oxt_names.specs.Constant.{Constant}
 use Rattle.oxt_resolve.specs.Flags.{joined, redeclared, symbol_flag}
 use Rattle.oxt_resolve.specs.Laws.{HasAllFlags, JoinsFlags}
 use Rattle.oxt_resolve.specs.Marks.{marks_of}
-use Rattle.oxt_resolve.specs.Resolved.{Values, again, all_declared, all_enums, all_opened, all_used, declared_as, declared_table, enum_as, opened_in, part_of, reference_of, root_of, scope_of_number, symbol_of, values_of, with_body, with_declarations, with_declared, with_enum, with_enums, with_opened, with_used, with_value}
-use Rattle.oxt_resolve.specs.Spellings.{spellings_of}
+use Rattle.oxt_resolve.specs.Resolved.{Values, again, all_declared, all_enums, all_opened, all_used, declared_as, declared_table, enum_as, opened_in, part_of, reference_of, root_of, scope_of_number, symbol_of, taken_in, values_of, with_body, with_declarations, with_declared, with_enum, with_enums, with_opened, with_used, with_value}
 use Rattle.oxt_scopes.specs.Owners.{Owned, owners_of}
 use Rattle.oxt_scopes.specs.Scopes.{number_of}
 use Rattle.oxt_scopes.specs.Nestings.{Opened, scopes_of}
@@ -75,8 +74,8 @@ module _ (P : SymbolData → Type 0) (made : (t : List ℕ) (x : ScopeId) (r : R
   -- it holds before the first reference
   pub before_uses : (l : Bool) (d : Doc) → Each P (declared_table l d).symbols
   before_uses l d =
-      enum_all (values_of l d) (scopes_of l d) (all_declared (scopes_of l d) (all_opened (marks_of d) (scopes_of l d) (root_of (marks_of d) d)))
-      (declared_all (scopes_of l d) (all_opened (marks_of d) (scopes_of l d) (root_of (marks_of d) d)) (opened_all (marks_of d) (scopes_of l d) (root_of (marks_of d) d) tt))
+      enum_all (values_of l d) (scopes_of l d) (all_declared (scopes_of l d) (all_opened (marks_of d) (scopes_of l d) (root_of (marks_of d) (taken_in d) d)))
+      (declared_all (scopes_of l d) (all_opened (marks_of d) (scopes_of l d) (root_of (marks_of d) (taken_in d) d)) (opened_all (marks_of d) (scopes_of l d) (root_of (marks_of d) (taken_in d) d) tt))
 
 -- what says nothing of references
 module _ (P : SymbolData → Type 0) (kept : (rs : List ReferenceId) (y : SymbolData) → P y → P (record y { references = rs })) where
@@ -84,9 +83,9 @@ module _ (P : SymbolData → Type 0) (kept : (rs : List ReferenceId) (y : Symbol
   meant_one r None ys h = h
   meant_one r (Some i) ys h = each_changed P (λ y. record y { references = y.references ++ r ∷ [] }) ys i.0 (λ y k. kept (y.references ++ r ∷ []) y k) h
 
-  pub used_all : (names : ℕ → Option (List ℕ)) (os : List Owned) (s : Scoped) → Each P s.symbols → Each P (all_used names os s).symbols
-  used_all names [] s h = h
-  used_all names (o ∷ os) s h = used_all names os (with_used names s o) (meant_one (record { 0 = length s.references }) (reference_of names s o).symbol s.symbols h)
+  pub used_all : (os : List Owned) (s : Scoped) → Each P s.symbols → Each P (all_used os s).symbols
+  used_all [] s h = h
+  used_all (o ∷ os) s h = used_all os (with_used s o) (meant_one (record { 0 = length s.references }) (reference_of s o).symbol s.symbols h)
 
 none_joined : (f : SymbolFlags) → f ≡ joined (symbol_flag 0) f
 none_joined f =
@@ -102,4 +101,4 @@ flags_more : (r : Redeclaration) (y : SymbolData) → HasAllFlags y → HasAllFl
 flags_more r y h = ap (λ f. joined f r.flags) h ∙ sym (fold-append (λ (f : SymbolFlags) (q : Redeclaration). joined f q.flags) (symbol_flag 0) y.declarations (r ∷ []))
 
 pub joins_flags : JoinsFlags
-joins_flags l d = used_all HasAllFlags (λ rs y h. h) (spellings_of d) (owners_of d) (declared_table l d) (before_uses HasAllFlags flags_made flags_more (λ bs v y h. h) l d)
+joins_flags l d = used_all HasAllFlags (λ rs y h. h) (owners_of d) (declared_table l d) (before_uses HasAllFlags flags_made flags_more (λ bs v y h. h) l d)

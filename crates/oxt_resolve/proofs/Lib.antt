@@ -5,5 +5,6 @@ pub mod Folds
 pub mod Gatherings
 pub mod Holding
 pub mod Meanings
+pub mod Noted
 pub mod Steps
 pub mod Walks

@@ -4,8 +4,7 @@ use Rattle.std.proofs.lemmas.Bool.{eqb-true, eq-eqb}
 use Rattle.std.specs.Prelude.{◌==◌, option_map, slice_get}
 use Rattle.oxt_resolve.specs.Laws.{KnowsUses, MeansOwners, is_symbol, live_slot, uses_from, uses_of}
 use Rattle.oxt_resolve.specs.Marks.{marks_of}
-use Rattle.oxt_resolve.specs.Resolved.{Values, all_declared, all_enums, all_opened, all_used, declared_as, declared_table, enum_as, group_of, opened_in, part_of, reference_of, root_of, scope_of_number, symbol_of, values_of, with_body, with_declarations, with_declared, with_enum, with_enums, with_opened, with_used, with_value}
-use Rattle.oxt_resolve.specs.Spellings.{spellings_of}
+use Rattle.oxt_resolve.specs.Resolved.{Values, all_declared, all_enums, all_opened, all_used, declared_as, declared_table, enum_as, group_of, opened_in, part_of, reference_of, root_of, scope_of_number, symbol_of, taken_in, values_of, with_body, with_declarations, with_declared, with_enum, with_enums, with_opened, with_used, with_value}
 use Rattle.oxt_resolve.proofs.Holding.{before_uses}
 use Rattle.oxt_declares.specs.Declarations.{Declared}
 use Rattle.oxt_resolve.specs.declared.enums.EnumPart.{EnumPart}
@@ -28,35 +27,31 @@ use Rattle.oxt_tree.specs.Doc.{Doc}
 
 -- ---- each reference
 
-abbrev Names : Type 0
-Names = ℕ → Option (List ℕ)
-
 -- what a name comes to in a table
-abbrev slot_in : Names → List ScopeData → List (ℕ × ScopeId) → Owned → Slot
-slot_in names xs es o = live_slot (reference_of names (record { scopes = xs; symbols = []; references = []; opened = es; declared = []; named = []; taken = [] }) o)
+abbrev slot_in : List ScopeData → List (ℕ × ScopeId) → Owned → Slot
+slot_in xs es o = live_slot (reference_of (record { scopes = xs; symbols = []; references = []; opened = es; declared = []; named = []; taken = [] }) o)
 
-slot_same : (names : Names) (s : Scoped) (o : Owned) → live_slot (reference_of names s o) ≡ slot_in names s.scopes s.opened o
-slot_same names s o = ap (λ g. live_slot (record { node = record { 0 = o.node }; symbol = g; flags = (reference_of names s o).flags })) (by o.owner (names o.node))
+slot_same : (s : Scoped) (o : Owned) → live_slot (reference_of s o) ≡ slot_in s.scopes s.opened o
+slot_same s o = ap (λ g. live_slot (record { node = record { 0 = o.node }; symbol = g; flags = (reference_of s o).flags })) (by o.owner o.name)
   where
-    by : (p : Option ℕ) (t : Option (List ℕ)) → group_of p t s ≡ group_of p t (record { scopes = s.scopes; symbols = []; references = []; opened = s.opened; declared = []; named = []; taken = [] })
+    by : (p : Option ℕ) (t : List ℕ) → group_of p t s ≡ group_of p t (record { scopes = s.scopes; symbols = []; references = []; opened = s.opened; declared = []; named = []; taken = [] })
     by None t = refl
-    by (Some n) None = refl
-    by (Some n) (Some t) = refl
+    by (Some n) t = refl
 
-scopes_stay : (names : Names) (os : List Owned) (s : Scoped) → (all_used names os s).scopes ≡ s.scopes
-scopes_stay names [] s = refl
-scopes_stay names (o ∷ os) s = scopes_stay names os (with_used names s o)
+scopes_stay : (os : List Owned) (s : Scoped) → (all_used os s).scopes ≡ s.scopes
+scopes_stay [] s = refl
+scopes_stay (o ∷ os) s = scopes_stay os (with_used s o)
 
-opened_stay : (names : Names) (os : List Owned) (s : Scoped) → (all_used names os s).opened ≡ s.opened
-opened_stay names [] s = refl
-opened_stay names (o ∷ os) s = opened_stay names os (with_used names s o)
+opened_stay : (os : List Owned) (s : Scoped) → (all_used os s).opened ≡ s.opened
+opened_stay [] s = refl
+opened_stay (o ∷ os) s = opened_stay os (with_used s o)
 
-references_are : (names : Names) (os : List Owned) (s : Scoped) → (all_used names os s).references ≡ s.references ++ map (slot_in names s.scopes s.opened) os
-references_are names [] s = sym (append-nil s.references)
-references_are names (o ∷ os) s =
-    references_are names os (with_used names s o)
-    ∙ append_assoc s.references (live_slot (reference_of names s o) ∷ []) (map (slot_in names s.scopes s.opened) os)
-    ∙ ap (λ q. s.references ++ q ∷ map (slot_in names s.scopes s.opened) os) (slot_same names s o)
+references_are : (os : List Owned) (s : Scoped) → (all_used os s).references ≡ s.references ++ map (slot_in s.scopes s.opened) os
+references_are [] s = sym (append-nil s.references)
+references_are (o ∷ os) s =
+    references_are os (with_used s o)
+    ∙ append_assoc s.references (live_slot (reference_of s o) ∷ []) (map (slot_in s.scopes s.opened) os)
+    ∙ ap (λ q. s.references ++ q ∷ map (slot_in s.scopes s.opened) os) (slot_same s o)
 
 map_same : {A B : Type 0} (f g : A → B) (xs : List A) → ((x : A) → f x ≡ g x) → map f xs ≡ map g xs
 map_same f g [] h = refl
@@ -107,16 +102,16 @@ enum_unused values (x ∷ xs) s = enum_unused values xs (with_enums values s x) 
 
 unused : (l : Bool) (d : Doc) → (declared_table l d).references ≡ []
 unused l d =
-    enum_unused (values_of l d) (scopes_of l d) (all_declared (scopes_of l d) (all_opened (marks_of d) (scopes_of l d) (root_of (marks_of d) d)))
-    ∙ declared_unused (scopes_of l d) (all_opened (marks_of d) (scopes_of l d) (root_of (marks_of d) d)) ∙ opened_unused (marks_of d) (scopes_of l d) (root_of (marks_of d) d)
+    enum_unused (values_of l d) (scopes_of l d) (all_declared (scopes_of l d) (all_opened (marks_of d) (scopes_of l d) (root_of (marks_of d) (taken_in d) d)))
+    ∙ declared_unused (scopes_of l d) (all_opened (marks_of d) (scopes_of l d) (root_of (marks_of d) (taken_in d) d)) ∙ opened_unused (marks_of d) (scopes_of l d) (root_of (marks_of d) (taken_in d) d)
 
-means_in : (names : Names) (os : List Owned) (s : Scoped) → s.references ≡ [] → (all_used names os s).references ≡ map (λ o. live_slot (reference_of names (all_used names os s) o)) os
-means_in names os s none =
-    references_are names os s ∙ ap (λ ss. ss ++ map (slot_in names s.scopes s.opened) os) none
-    ∙ map_same (slot_in names s.scopes s.opened) (λ o. live_slot (reference_of names (all_used names os s) o)) os (λ o. ap (λ xs. slot_in names xs s.opened o) (sym (scopes_stay names os s)) ∙ ap (λ es. slot_in names (all_used names os s).scopes es o) (sym (opened_stay names os s)) ∙ sym (slot_same names (all_used names os s) o))
+means_in : (os : List Owned) (s : Scoped) → s.references ≡ [] → (all_used os s).references ≡ map (λ o. live_slot (reference_of (all_used os s) o)) os
+means_in os s none =
+    references_are os s ∙ ap (λ ss. ss ++ map (slot_in s.scopes s.opened) os) none
+    ∙ map_same (slot_in s.scopes s.opened) (λ o. live_slot (reference_of (all_used os s) o)) os (λ o. ap (λ xs. slot_in xs s.opened o) (sym (scopes_stay os s)) ∙ ap (λ es. slot_in (all_used os s).scopes es o) (sym (opened_stay os s)) ∙ sym (slot_same (all_used os s) o))
 
 pub means_owners : MeansOwners
-means_owners l d = means_in (spellings_of d) (owners_of d) (declared_table l d) (unused l d)
+means_owners l d = means_in (owners_of d) (declared_table l d) (unused l d)
 
 -- ---- the references of each symbol
 
@@ -181,10 +176,10 @@ knows_one r (Some j) q ss ys n m h i = by (i == j.0) refl
         (sym (get_other (adding r) ys j.0 i (apart e)))
         (known_same (slice_get ys i) (uses_of i ss) (uses_of i (ss ++ q ∷ [])) (ended false e ∙ append-nil (uses_of i ss)) (h i))
 
-knows_all : (names : Names) (os : List Owned) (s : Scoped) → Knows s.references s.symbols → Knows (all_used names os s).references (all_used names os s).symbols
-knows_all names [] s h = h
-knows_all names (o ∷ os) s h =
-    knows_all names os (with_used names s o) (knows_one (record { 0 = length s.references }) (reference_of names s o).symbol (live_slot (reference_of names s o)) s.references s.symbols refl refl h)
+knows_all : (os : List Owned) (s : Scoped) → Knows s.references s.symbols → Knows (all_used os s).references (all_used os s).symbols
+knows_all [] s h = h
+knows_all (o ∷ os) s h =
+    knows_all os (with_used s o) (knows_one (record { 0 = length s.references }) (reference_of s o).symbol (live_slot (reference_of s o)) s.references s.symbols refl refl h)
 
 each_get : (P : SymbolData → Type 0) (ys : List SymbolData) (i : ℕ) → Each P ys → IfSome (slice_get ys i) P
 each_get P [] i h = tt
@@ -199,5 +194,5 @@ unmeant l d = before_uses Unmeant (λ t x r. refl) (λ r y h. h) (λ bs v y h. h
 
 pub knows_uses : KnowsUses
 knows_uses l d =
-    knows_all (spellings_of d) (owners_of d) (declared_table l d)
+    knows_all (owners_of d) (declared_table l d)
     (subst (λ (ss : List Slot). Knows ss (declared_table l d).symbols) (sym (unused l d)) (λ i. each_get Unmeant (declared_table l d).symbols i (unmeant l d)))

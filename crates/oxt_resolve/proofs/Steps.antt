@@ -48,7 +48,7 @@ again_is i r s u v f g declared flagged flags was =
     ∙ ap (with_symbols (with_declaration i r s)) (flagged_again r f s.symbols i.0 was)
 
 -- a reference was made
-pub referred_is : (names : ℕ → Option (List ℕ)) (o : Owned) (s t : Scoped) (n : NodeId) (i : ReferenceId) (y : Option SymbolId) (w : Option (List ℕ)) (f : ReferenceFlags) → t ≡ with_reference i (record { node = n; symbol = y; flags = f }) s
-    → i.0 ≡ length s.references → n.0 ≡ o.node → y ≡ group_of o.owner w s → w ≡ names o.node → f ≡ usage_flags o.usage → t ≡ with_used names s o
-referred_is names o s t n i y w f made number node group name flags =
-    made ∙ (λ j. with_reference (record { 0 = number j }) (record { node = record { 0 = node j }; symbol = (group ∙ ap (λ v. group_of o.owner v s) name) j; flags = flags j }) s)
+pub referred_is : (o : Owned) (s t : Scoped) (n : NodeId) (i : ReferenceId) (y : Option SymbolId) (f : ReferenceFlags) → t ≡ with_reference i (record { node = n; symbol = y; flags = f }) s
+    → i.0 ≡ length s.references → n.0 ≡ o.node → y ≡ group_of o.owner o.name s → f ≡ usage_flags o.usage → t ≡ with_used s o
+referred_is o s t n i y f made number node group flags =
+    made ∙ (λ j. with_reference (record { 0 = number j }) (record { node = record { 0 = node j }; symbol = group j; flags = flags j }) s)

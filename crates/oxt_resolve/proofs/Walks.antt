@@ -1,10 +1,8 @@
--- Marks and names, a part at a time.
+-- Marks, a part at a time.
 use Rattle.std.proofs.Common.{◌≡◌, ◌∙◌, sym, ap, ℕ, ◌+◌, ◌<◌, ◌≤◌, List, [], ◌∷◌, ◌++◌, length, drop, get_or, append_assoc, append-nil}
 use Rattle.std.proofs.lemmas.List.{map-append}
 use Rattle.oxt_resolve.specs.Marks.{Mark, each_marks, mark_view, mark_views, marks}
-use Rattle.oxt_resolve.specs.Spellings.{Spelled, each_spellings, spelling_view, spelling_views, spellings}
 use Rattle.oxt_resolve.specs.declared.marks.Mark.{Mark as Marked}
-use Rattle.oxt_resolve.specs.declared.spellings.Spelling.{Spelling}
 use Rattle.oxt_names.proofs.Lists.{drop_at, drop_end}
 use Rattle.oxt_tree.specs.View.{docs_in, part_doc}
 use Rattle.oxt_tree.specs.declared.tree.Part.{Part}
@@ -23,18 +21,3 @@ pub ruleset mark_steps = (marks_next, marks_end)
 
 pub one_mark : (old new : List Marked) (m : Marked) → new ≡ old ++ m ∷ [] → mark_views new ≡ mark_views old ++ mark_view m ∷ []
 one_mark old new m is = ap mark_views is ∙ map-append mark_view old (m ∷ [])
-
-pub spellings_end : (before : List Spelled) (ps : List Part) (i : ℕ) → length ps ≤ i → before ++ each_spellings (docs_in (drop i ps)) ≡ before
-spellings_end before ps i h = ap (λ qs. before ++ each_spellings (docs_in qs)) (drop_end ps i h) ∙ append-nil before
-
-pub spellings_next : (before after : List Spelled) (ps : List Part) (i : ℕ) (p : Part) → i < length ps → p ≡ get_or ps i p → after ≡ before ++ spellings (part_doc p)
-    → before ++ each_spellings (docs_in (drop i ps)) ≡ after ++ each_spellings (docs_in (drop (i + 1) ps))
-spellings_next before after ps i p h e pushed =
-    ap (λ qs. before ++ each_spellings (docs_in qs)) (drop_at ps i p h e)
-    ∙ sym (append_assoc before (spellings (part_doc p)) (each_spellings (docs_in (drop (i + 1) ps))))
-    ∙ ap (λ ms. ms ++ each_spellings (docs_in (drop (i + 1) ps))) (sym pushed)
-
-pub ruleset spelling_steps = (spellings_next, spellings_end)
-
-pub one_spelling : (old new : List Spelling) (m : Spelling) → new ≡ old ++ m ∷ [] → spelling_views new ≡ spelling_views old ++ spelling_view m ∷ []
-one_spelling old new m is = ap spelling_views is ∙ map-append spelling_view old (m ∷ [])

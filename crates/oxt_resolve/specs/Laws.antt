@@ -12,7 +12,6 @@ use Rattle.oxt_names.specs.declared.ids.ReferenceId.{ReferenceId}
 use Rattle.oxt_names.specs.declared.ids.SymbolId.{SymbolId}
 use Rattle.oxt_resolve.specs.Flags.{joined, symbol_flag}
 use Rattle.oxt_resolve.specs.Resolved.{reference_of, resolved}
-use Rattle.oxt_resolve.specs.Spellings.{spellings_of}
 
 -- a reference that was not deleted
 abbrev pub live_slot : Reference → Slot
@@ -21,7 +20,7 @@ live_slot r = record { reference = r; is_live = true }
 -- Each reference is a name that is used, and means the symbol of its spelling that is bound in the scope
 -- that owns it.
 abbrev pub MeansOwners : Type 0
-MeansOwners = (l : Bool) (d : Doc) → (resolved l d).references ≡ map (λ o. live_slot (reference_of (spellings_of d) (resolved l d) o)) (owners_of d)
+MeansOwners = (l : Bool) (d : Doc) → (resolved l d).references ≡ map (λ o. live_slot (reference_of (resolved l d) o)) (owners_of d)
 
 -- the flags of these declarations, all together
 abbrev pub all_flags : List Redeclaration → SymbolFlags

@@ -1,9 +1,9 @@
 pub mod Enumless
 pub mod Flags
 pub mod Gathered
+pub mod Groups
 pub mod Laws
 pub mod Marks
 pub mod Names
 pub mod Resolved
-pub mod Spellings
 pub mod Values

@@ -25,7 +25,6 @@ use Rattle.oxt_resolve.specs.declared.enums.EnumPart.{EnumPart}
 use Rattle.oxt_resolve.specs.declared.enums.EnumPart.TheVariants as part
 use Rattle.oxt_resolve.specs.Flags.{both, inherited, joined, redeclared, role_flags, scope_flag, usage_flags}
 use Rattle.oxt_resolve.specs.Marks.{marks_of}
-use Rattle.oxt_resolve.specs.Spellings.{spellings_of}
 
 -- ---- scopes
 
@@ -138,17 +137,16 @@ values_of legacy d = values_by (owners_of d) (scopes_of legacy d) d
 -- ---- references
 
 -- the symbol of that name that the scope of that number binds, if there are such
-abbrev pub group_of : Option ℕ → Option (List ℕ) → Scoped → Option SymbolId
+abbrev pub group_of : Option ℕ → List ℕ → Scoped → Option SymbolId
 group_of None t s = None
-group_of (Some n) None s = None
-group_of (Some n) (Some t) s = binding_at s.scopes (scope_of_number n s).0 t
+group_of (Some n) t s = binding_at s.scopes (scope_of_number n s).0 t
 
 -- a name that is used means the symbol of its spelling in the scope that owns it
-abbrev pub reference_of : (ℕ → Option (List ℕ)) → Scoped → Owned → Reference
-reference_of names s o = record { node = record { 0 = o.node }; symbol = group_of o.owner (names o.node) s; flags = usage_flags o.usage }
+abbrev pub reference_of : Scoped → Owned → Reference
+reference_of s o = record { node = record { 0 = o.node }; symbol = group_of o.owner o.name s; flags = usage_flags o.usage }
 
-abbrev pub with_used : (ℕ → Option (List ℕ)) → Scoped → Owned → Scoped
-with_used names s o = with_reference (record { 0 = length s.references }) (reference_of names s o) s
+abbrev pub with_used : Scoped → Owned → Scoped
+with_used s o = with_reference (record { 0 = length s.references }) (reference_of s o) s
 
 -- ---- the table
 
@@ -157,8 +155,8 @@ abbrev pub root : ScopeFlags → ℕ → List (List ℕ) → Scoped
 root f n ts = record { scopes = new_scope None f ∷ []; symbols = []; references = []; opened = (n, record { 0 = 0 }) ∷ []; declared = []; named = []; taken = ts }
 
 -- the same, of that document
-abbrev pub root_of : (ℕ → ScopeFlags) → Doc → Scoped
-root_of marks d = root (both (scope_flag 1) (marks (number_of d))) (number_of d) (all_added (names d) [])
+abbrev pub root_of : (ℕ → ScopeFlags) → List (List ℕ) → Doc → Scoped
+root_of marks ts d = root (both (scope_flag 1) (marks (number_of d))) (number_of d) ts
 
 abbrev pub all_opened : (ℕ → ScopeFlags) → List Opened → Scoped → Scoped
 all_opened marks xs s = fold (with_opened marks) s xs
@@ -169,25 +167,29 @@ all_declared xs s = fold with_declarations s xs
 abbrev pub all_enums : Values → List Opened → Scoped → Scoped
 all_enums values xs s = fold (with_enums values) s xs
 
-abbrev pub all_used : (ℕ → Option (List ℕ)) → List Owned → Scoped → Scoped
-all_used names os s = fold (with_used names) s os
+abbrev pub all_used : List Owned → Scoped → Scoped
+all_used os s = fold with_used s os
 
--- the table of a tree with these marks and scopes, and what these declare
-abbrev pub declared_by : (ℕ → ScopeFlags) → List Opened → Doc → Scoped
-declared_by marks xs d = all_declared xs (all_opened marks xs (root_of marks d))
+-- the table of a tree with these marks, in which these names are taken, with these scopes and what they declare
+abbrev pub declared_by : (ℕ → ScopeFlags) → List (List ℕ) → List Opened → Doc → Scoped
+declared_by marks ts xs d = all_declared xs (all_opened marks xs (root_of marks ts d))
 
 -- the table with the enums of a tree that has these scopes, and these names that it uses
 abbrev pub used_by : List Owned → List Opened → Doc → Scoped → Scoped
-used_by os xs d s = all_used (spellings_of d) os (all_enums (values_by os xs d) xs s)
+used_by os xs d s = all_used os (all_enums (values_by os xs d) xs s)
+
+-- the names that a tree takes
+abbrev pub taken_in : Doc → List (List ℕ)
+taken_in d = all_added (names d) []
 
 -- the table without references, where decorators have their older meaning or not
 abbrev pub declared_table : Bool → Doc → Scoped
-declared_table legacy d = all_enums (values_of legacy d) (scopes_of legacy d) (declared_by (marks_of d) (scopes_of legacy d) d)
+declared_table legacy d = all_enums (values_of legacy d) (scopes_of legacy d) (declared_by (marks_of d) (taken_in d) (scopes_of legacy d) d)
 
 -- The scopes come first, in the order of the text, then what they declare, then the bodies and constants
 -- of enums, then the names that are used.
-abbrev pub table_by : List Owned → List Opened → Doc → Scoped
-table_by os xs d = used_by os xs d (declared_by (marks_of d) xs d)
+abbrev pub table_by : List (List ℕ) → List Owned → List Opened → Doc → Scoped
+table_by ts os xs d = used_by os xs d (declared_by (marks_of d) ts xs d)
 
 abbrev pub resolved : Bool → Doc → Scoped
-resolved legacy d = table_by (owners_of d) (scopes_of legacy d) d
+resolved legacy d = table_by (taken_in d) (owners_of d) (scopes_of legacy d) d

@@ -2,13 +2,13 @@
 #![tactic(auto)]
 
 mod enums;
+mod firsts;
 mod flags;
-mod gathered;
+pub mod groups;
 pub mod laws;
 mod marks;
 pub mod names;
 mod opening;
 pub mod resolve;
-mod spellings;
 mod symbols;
 mod uses;

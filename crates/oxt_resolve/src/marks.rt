@@ -2,10 +2,10 @@
 ghost use Rattle.std.specs.List.{list_any};
 ghost use Rattle.std.specs.Prelude.{◌≡◌, ◌==◌, ◌++◌, IfOk, OnOk, Some, ℕ, codes, if◌then◌else◌};
 ghost use Rattle.oxt_tree.specs.Fields.{docs_list, field_of, named};
-ghost use Rattle.oxt_tree.specs.View.{doc_or_nil, docs_in, part_doc};
+ghost use Rattle.oxt_tree.specs.View.{doc_or_nil, docs_in, node_doc, part_doc};
 ghost use Rattle.oxt_resolve.specs.Flags.{both};
 ghost use Rattle.oxt_resolve.specs.Gathered.{at_number};
-ghost use Rattle.oxt_resolve.specs.Marks.{accessor_flags, accessor_mark, flags_in, has_function, has_use_strict, is_use_strict, mark_of, mark_views, marked, own_marks, says_strict, strict_mark};
+ghost use Rattle.oxt_resolve.specs.Marks.{accessor_flags, accessor_mark, each_marks, flags_in, has_function, has_use_strict, is_use_strict, mark_of, mark_views, marked, marks, marks_of, own_marks, says_strict, strict_mark};
 
 use crate::flags::{both, no_flags};
 use indexmap::IndexMap;
@@ -35,9 +35,21 @@ pub struct Marks {
 }
 
 impl Marks {
+    /// Those of the tree.
+    ///
+    /// # Errors
+    ///
+    /// Fails only where memory runs out.
+    pub fn of(alloc: Global, program: &Node) -> Result<Marks, OutOfMemory>
+        ensures { IfOk result (λ m. flags_in m ≡ marks_of (node_doc program.now)) }
+    {
+        let marks = marks_in(alloc, program)?;
+        Marks::new(alloc, marks.as_slice())
+    }
+
     /// The table of these marks.
     #[tactic(auto, using(crate::proofs::Gatherings::mark_froms))]
-    pub fn new(alloc: Global, marks: &[Mark]) -> Result<Marks, OutOfMemory>
+    fn new(alloc: Global, marks: &[Mark]) -> Result<Marks, OutOfMemory>
         ensures { IfOk result (λ m. flags_in m ≡ marked (mark_views marks.now)) }
     {
         let mut table = Marks {
@@ -84,8 +96,54 @@ fn put_flags(
     Ok(())
 }
 
+/// The marks in the tree, in the order of the text.
+fn marks_in(alloc: Global, program: &Node) -> Result<Vec<Mark>, OutOfMemory>
+    ensures { IfOk result (λ v. mark_views v.items ≡ marks (node_doc program.now)) }
+{
+    let mut out = Vec::new(alloc);
+    push_node(program, &mut out)?;
+    Ok(out)
+}
+
+/// Appends the marks in the node.
+#[cycle(marks)]
+fn push_node(node: &Node, out: &mut Vec<Mark>) -> Result<(), OutOfMemory>
+    ensures { OnOk result (mark_views out.new.items
+        ≡ mark_views out.old.items ++ marks (node_doc node.now)) }
+{
+    let _span = node.span;
+    push_own_marks(node, out)?;
+    push_each(&node.parts, out)
+}
+
+/// Appends the marks in the part.
+#[cycle(marks)]
+fn push_part(part: &Part, out: &mut Vec<Mark>) -> Result<(), OutOfMemory>
+    ensures { OnOk result (mark_views out.new.items
+        ≡ mark_views out.old.items ++ marks (part_doc part.now)) }
+{
+    match part {
+        Part::Node(node) => push_node(node, out),
+        Part::List(parts) => push_each(parts, out),
+        _ => Ok(()),
+    }
+}
+
+/// Appends the marks in the parts.
+#[cycle(marks)]
+#[tactic(auto, using(crate::proofs::Walks::mark_steps))]
+fn push_each(parts: &[Part], out: &mut Vec<Mark>) -> Result<(), OutOfMemory>
+    ensures { OnOk result (mark_views out.new.items
+        ≡ mark_views out.old.items ++ each_marks (docs_in parts.now)) }
+{
+    for part in parts {
+        push_part(part, out)?;
+    }
+    Ok(())
+}
+
 /// Appends the marks of the node itself.
-pub(crate) fn push_own_marks(node: &Node, out: &mut Vec<Mark>) -> Result<(), OutOfMemory>
+fn push_own_marks(node: &Node, out: &mut Vec<Mark>) -> Result<(), OutOfMemory>
     ensures { OnOk result (mark_views out.new.items
         ≡ mark_views out.old.items ++ own_marks node.now.kind node.now.id.0 (docs_in node.now.parts.items)) }
 {

@@ -1,5 +1,5 @@
 //! The scopes of the table.
-ghost use Rattle.std.specs.Prelude.{◌≡◌, ◌<◌, [], IfOk, OnOk, length};
+ghost use Rattle.std.specs.Prelude.{◌≡◌, ◌<◌, IfOk, OnOk, length};
 ghost use Rattle.oxt_scopes.specs.Stack.{number_at};
 ghost use Rattle.oxt_scopes.specs.Views.{opened_view, opened_views};
 ghost use Rattle.oxt_tree.specs.View.{node_doc};
@@ -9,21 +9,25 @@ ghost use Rattle.oxt_resolve.specs.Resolved.{all_opened, flags_at, flags_within,
 
 use crate::flags::{both, inherited, role_flags};
 use crate::marks::Marks;
-use crate::names::taken_names;
 use oxt_names::flags::ScopeFlags;
 use oxt_names::ids::{NodeId, OutOfMemory, ScopeId};
+use oxt_names::uid::UidNames;
 use oxt_scopes::scopes::OpenedScope;
 use oxt_scoping::scoping::Scoping;
 use oxt_tree::tree::Node;
 use std::alloc::Global;
 
-/// The table with the scope of the program alone.
-pub fn root_of(alloc: Global, program: &Node, marks: &Marks) -> Result<Scoping, OutOfMemory>
-    ensures { IfOk result (λ table. table ≡ root_of (flags_in marks.now) (node_doc program.now)) }
+/// The table with the scope of the program alone, in which these names are taken.
+pub fn root_of(
+    alloc: Global,
+    program: &Node,
+    marks: &Marks,
+    taken: UidNames,
+) -> Result<Scoping, OutOfMemory>
+    ensures { IfOk result (λ table. table ≡ root_of (flags_in marks.now) taken (node_doc program.now)) }
 {
-    let names = taken_names(alloc, program)?;
     let flags = both(ScopeFlags::Top, marks.flags_of(program.id));
-    Scoping::of_program(alloc, flags, program.id, names)
+    Scoping::of_program(alloc, flags, program.id, taken)
 }
 
 /// Opens the scopes, each in the one around it.

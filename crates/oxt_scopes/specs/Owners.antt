@@ -24,10 +24,11 @@ use Rattle.oxt_scopes.specs.declared.way.Step.TheVariants as step
 use Rattle.oxt_scopes.specs.declared.way.Way.{Way}
 use Rattle.oxt_scopes.specs.declared.way.Way.TheVariants as way
 
--- the number of a node that is a name, that of the node that opens the scope of its group, none
--- where the name is free, and how the name is used
+-- the number of a node that is a name, its spelling, the number of the node that opens the scope of its group, none where
+-- the name is free, and how the name is used
 pub record Owned : Type 0 where
   pub node : ℕ
+  pub name : List ℕ
   pub owner : Option ℕ
   pub usage : Usage
 
@@ -49,7 +50,7 @@ meaning w t ls = look sight.Value t ls
 -- the owner of the name with that number
 abbrev pub used : ℕ → Option (List ℕ) → Way → List Level → List Owned
 used i None w ls = []
-used i (Some t) w ls = record { node = i; owner = meaning w t ls; usage = usage_of w } ∷ []
+used i (Some t) w ls = record { node = i; name = t; owner = meaning w t ls; usage = usage_of w } ∷ []
 
 -- The scope of an enum's block has the number of its body, and any other that of its node.
 abbrev pub scope_number : Role → Kind → ℕ → Docs → ℕ

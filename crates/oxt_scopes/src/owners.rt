@@ -17,9 +17,11 @@ use std::alloc::Global;
 
 /// A name that is used, and its owner.
 #[derive(Clone, Copy)]
-pub struct OwnedName {
+pub struct OwnedName<'a> {
     /// The number of the node that is the name.
     pub node: NodeId,
+    /// Its spelling.
+    pub name: &'a str,
     /// The number of the node that opens the scope of the name's group; none where it is free.
     pub owner: Option<NodeId>,
     /// How the name is used.
@@ -31,7 +33,7 @@ pub struct OwnedName {
 /// # Errors
 ///
 /// Fails only where memory runs out.
-pub fn owners_of(alloc: Global, program: &Node) -> Result<Vec<OwnedName>, OutOfMemory>
+pub fn owners_of<'a>(alloc: Global, program: &'a Node) -> Result<Vec<OwnedName<'a>>, OutOfMemory>
     ensures { IfOk result (λ v. owned_views v.items ≡ owners_of (node_doc program.now)) }
 {
     let walked = walked_of(alloc, program, false)?;

@@ -33,7 +33,7 @@ pub struct Walked<'a> {
     /// The scopes, in the order of the text, each in front of those in it.
     pub scopes: Vec<OpenedScope<'a>>,
     /// The names, in the order of the text, each with its owner.
-    pub names: Vec<OwnedName>,
+    pub names: Vec<OwnedName<'a>>,
 }
 
 /// The scopes of the tree and the names that it uses. `legacy` says whether decorators have their older meaning.
@@ -113,6 +113,7 @@ fn push_use<'a>(
     let owner = meaning(around.as_slice(), name, way);
     out.names.push(OwnedName {
         node: node.id,
+        name,
         owner,
         usage: usage_of(way),
     })?;

@@ -4,7 +4,8 @@ use Rattle.oxt_check.specs.Faults.{facts_of, first_fault}
 use Rattle.oxt_check.specs.Refusals.{Refusal}
 use Rattle.oxt_facts.specs.Facts.{Known, of_output, of_told_source}
 use Rattle.oxt_facts.specs.Entry.{Entry, entries}
-use Rattle.oxt_told.specs.Groups.{groups_of}
+use Rattle.oxt_facts.specs.Owners.{Owners}
+use Rattle.oxt_resolve.specs.Groups.{groups_of}
 use Rattle.oxt_told.specs.Source.{Asked}
 use Rattle.oxt_told.specs.Whole.{told_of_source}
 use Rattle.oxt_options.specs.Options.{TransformData}
@@ -62,17 +63,17 @@ abbrev pub is_due : TransformData → Doc → Bool
 is_due o source = due_by (asked o source) o source
 
 -- The effect word of a source under the options, of whose nodes that is asked and of which that is the table: each name
--- with its group.
-abbrev pub source_word_by : Scoped → Asked → TransformData → Doc → List Entry
-source_word_by s p o source = word (of_told_source (told_of_source s p o source) (groups_of s source)) source
+-- with its group, by these.
+abbrev pub source_word_by : Scoped → Owners → Asked → TransformData → Doc → List Entry
+source_word_by s g p o source = word (of_told_source (told_of_source s p o source) g) source
 
 -- the effect word of a source under the options
 abbrev pub source_word : TransformData → Doc → List Entry
-source_word o source = source_word_by (resolved o.decorator.legacy source) (asked o source) o source
+source_word o source = source_word_by (resolved o.decorator.legacy source) (groups_of o.decorator.legacy source) (asked o source) o source
 
 -- what is known of the names of what was made of a source that has these names: which are made, and their groups
 abbrev pub known_of_output : List (List ℕ) → Doc → Known
-known_of_output names output = of_output names (groups_of (resolved false output) output) output
+known_of_output names output = of_output names (groups_of false output) output
 
 -- the effect word of what was made of a source that has these names
 abbrev pub output_word : List (List ℕ) → Doc → List Entry
@@ -96,20 +97,20 @@ expected_view x =
     }
 
 -- What is expected under the options of the output of a source of whose nodes that is asked and of which that is the
--- table, beside wrappers of these numbers.
-abbrev pub expected_beside : List ℕ → Scoped → Asked → TransformData → Doc → ExpectedData
-expected_beside staying s p o source =
+-- table, with these groups of its names, beside wrappers of these numbers.
+abbrev pub expected_beside : List ℕ → Scoped → Owners → Asked → TransformData → Doc → ExpectedData
+expected_beside staying s g p o source =
     record {
-      word = source_word_by s p o source;
+      word = source_word_by s g p o source;
       names = names_of source;
       settings = settings_by (due_by p o source) o.decorator.legacy source;
       staying = staying;
     }
 
 -- the same beside those that may stay
-abbrev pub expected_by : Scoped → Asked → TransformData → Doc → ExpectedData
-expected_by s p o source = expected_beside (targets o.decorator.legacy source) s p o source
+abbrev pub expected_by : Scoped → Owners → Asked → TransformData → Doc → ExpectedData
+expected_by s g p o source = expected_beside (targets o.decorator.legacy source) s g p o source
 
 -- what is expected of the output of a source under the options
 abbrev pub expected_of : TransformData → Doc → ExpectedData
-expected_of o source = expected_by (resolved o.decorator.legacy source) (asked o source) o source
+expected_of o source = expected_by (resolved o.decorator.legacy source) (groups_of o.decorator.legacy source) (asked o source) o source

@@ -7,8 +7,6 @@ ghost use Rattle.oxt_facts.specs.Entry.{entries};
 ghost use Rattle.oxt_grammar.specs.declared.category.Category.TheVariants as category;
 ghost use Rattle.oxt_grammar.specs.declared.holds.Holds.TheVariants as holds;
 ghost use Rattle.oxt_transform.specs.Expected.{expected_view, known_of_output};
-ghost use Rattle.oxt_resolve.specs.Resolved.{resolved};
-ghost use Rattle.oxt_told.specs.Groups.{groups_of};
 ghost use Rattle.oxt_transform.specs.Refusals.{Compares, IsFailure, Judges, JudgesNames, difference_in, is_plain_output};
 ghost use Rattle.oxt_word.specs.Word.{word};
 ghost use Rattle.oxt_names.specs.Names.{name_bytes};
@@ -27,12 +25,10 @@ use oxt_check::targets::WrappedTargets;
 use oxt_facts::compare::first_difference;
 use oxt_facts::facts::Facts;
 use oxt_facts::item::Item;
-use oxt_facts::owners::NameGroups;
 use oxt_names::ids::OutOfMemory;
 use oxt_names::name::Name;
 use oxt_names::uid::UidNames;
-use oxt_resolve::resolve::resolve;
-use oxt_told::groups::groups_of;
+use oxt_resolve::groups::groups_of;
 use oxt_tree::tree::Node;
 use oxt_valid::fits::is_tree;
 use oxt_valid::misfit::first_misfit;
@@ -150,22 +146,8 @@ fn find_mismatch_of_names(
 fn facts_of_output(alloc: Global, names: &UidNames, output: &Node) -> Result<Facts, OutOfMemory>
     ensures { IfOk result (λ facts. facts ≡ known_of_output names.now (node_doc output.now)) }
 {
-    let groups = groups_of_tree(alloc, output)?;
+    let groups = groups_of(alloc, output, false)?;
     Facts::of_output(alloc, names, groups, output)
-}
-
-/// The groups that the names of the output mean and declare.
-fn groups_of_tree(alloc: Global, output: &Node) -> Result<NameGroups, OutOfMemory>
-    ensures { IfOk result (λ groups. groups ≡ groups_of (resolved false (node_doc output.now)) (node_doc output.now)) }
-{
-    match resolve(alloc, output, false) {
-        Ok(scoping) => {
-            let groups = groups_of(alloc, output, &scoping);
-            drop(scoping);
-            groups
-        }
-        Err(fault) => Err(fault),
-    }
 }
 
 /// The first item in which the word of an output differs from the one that is expected, or the first owner, where the

@@ -10,6 +10,7 @@ use crate::settings::Settings;
 use oxt_check::targets::WrappedTargets;
 use oxt_facts::facts::Facts;
 use oxt_facts::item::Item;
+use oxt_facts::owners::NameGroups;
 use oxt_modules::due::is_export_due;
 use oxt_names::ids::OutOfMemory;
 use oxt_names::uid::UidNames;
@@ -17,7 +18,6 @@ use oxt_options::TransformOptions;
 use oxt_options::plan::Plan;
 use oxt_resolve::names::taken_names;
 use oxt_scoping::scoping::Scoping;
-use oxt_told::groups::groups_of;
 use oxt_told::told::told_of_source;
 use oxt_tree::tree::Node;
 use oxt_word::word::word_of;
@@ -37,7 +37,7 @@ pub struct Expected {
 }
 
 impl Expected {
-    /// What the output of that source is to be, by its table of scopes, its plan and the options.
+    /// What the output of that source is to be, by its table of scopes, the groups of its names, its plan and the options.
     ///
     /// # Errors
     ///
@@ -46,14 +46,15 @@ impl Expected {
         alloc: Global,
         source: &Node,
         scoping: &Scoping,
+        groups: NameGroups,
         plan: &Plan,
         options: &TransformOptions,
     ) -> Result<Expected, OutOfMemory>
         ensures { IfOk result (λ expected. expected_view expected
-            ≡ expected_by scoping.now (asked_of plan.now) (transform_view options.now) (node_doc source.now)) }
+            ≡ expected_by scoping.now groups (asked_of plan.now) (transform_view options.now) (node_doc source.now)) }
     {
         let targets = WrappedTargets::of(alloc, source, options.decorator.legacy)?;
-        Expected::beside(alloc, source, scoping, plan, options, targets)
+        Expected::beside(alloc, source, scoping, groups, plan, options, targets)
     }
 
     /// The same, where these wrappers may stay in it.
@@ -65,14 +66,15 @@ impl Expected {
         alloc: Global,
         source: &Node,
         scoping: &Scoping,
+        groups: NameGroups,
         plan: &Plan,
         options: &TransformOptions,
         staying: WrappedTargets,
     ) -> Result<Expected, OutOfMemory>
         ensures { IfOk result (λ expected. expected_view expected
-            ≡ expected_beside staying scoping.now (asked_of plan.now) (transform_view options.now) (node_doc source.now)) }
+            ≡ expected_beside staying scoping.now groups (asked_of plan.now) (transform_view options.now) (node_doc source.now)) }
     {
-        let word = source_word(alloc, source, scoping, plan, options)?;
+        let word = source_word(alloc, source, scoping, groups, plan, options)?;
         let due = is_due(source, plan, options);
         let settings = Settings::of(alloc, source, due, options.decorator.legacy)?;
         let names = taken_names(alloc, source)?;
@@ -97,14 +99,14 @@ fn source_word(
     alloc: Global,
     source: &Node,
     scoping: &Scoping,
+    groups: NameGroups,
     plan: &Plan,
     options: &TransformOptions,
 ) -> Result<Vec<Item>, OutOfMemory>
     ensures { IfOk result (λ word. entries word.items
-        ≡ source_word_by scoping.now (asked_of plan.now) (transform_view options.now) (node_doc source.now)) }
+        ≡ source_word_by scoping.now groups (asked_of plan.now) (transform_view options.now) (node_doc source.now)) }
 {
     let told = told_of_source(alloc, source, scoping, plan, options)?;
-    let groups = groups_of(alloc, source, scoping)?;
     let facts = Facts::of_told_source(alloc, told, groups)?;
     word_of(&facts, source)
 }

@@ -6,6 +6,7 @@ ghost use Rattle.oxt_json.specs.Spelling.{reading, tree};
 ghost use Rattle.oxt_json.specs.Spelled.{text_of};
 ghost use Rattle.oxt_options.specs.Options.{transform_view};
 ghost use Rattle.oxt_options.specs.Facts.{Answers};
+ghost use Rattle.oxt_resolve.specs.Groups.{groups_of};
 ghost use Rattle.oxt_resolve.specs.Resolved.{resolved};
 ghost use Rattle.oxt_told.specs.Source.{asked_of};
 ghost use Rattle.oxt_transform.specs.Expected.{expected_beside, expected_view, fault_of, keeps};
@@ -25,14 +26,14 @@ use crate::staying::staying_wrappers;
 use oxt_check::check;
 use oxt_check::diagnose::diagnostics_of;
 use oxt_check::targets::WrappedTargets;
+use oxt_facts::owners::NameGroups;
 use oxt_json::laws::text_tells_trees;
 use oxt_json::{read_tree, write_tree};
 use oxt_names::diagnostic::OxcDiagnostic;
 use oxt_names::ids::OutOfMemory;
 use oxt_names::lines::append_lines;
 pub use oxt_options::TransformOptions;
-use oxt_resolve::resolve::resolve;
-use oxt_scoping::scoping::Scoping;
+use oxt_resolve::resolve::{Resolution, resolve_names};
 use oxt_tree::tree::Program;
 use std::alloc::Global;
 
@@ -105,6 +106,15 @@ pub fn transform_text(
     Ok(TransformerReturn { bytes, diagnostics })
 }
 
+/// What is known of a program that has no fault.
+#[derive(Drop)]
+struct Checked {
+    /// What the passes know of it.
+    tables: Tables,
+    /// The groups of its names.
+    groups: NameGroups,
+}
+
 /// Lowers the program: its names are resolved, it is checked, what its writer is told is read, and it is rewritten and
 /// tested.
 ///
@@ -125,31 +135,31 @@ fn lower(
     ensures refused { IfErr result
         (λ f. IsHindrance (refusal_in f) (transform_view options.now) (node_doc program.old.root)) }
 {
-    let tables = match resolve_and_check(alloc, program, options) {
-        Ok(tables) => tables,
+    let checked = match resolve_and_check(alloc, program, options) {
+        Ok(checked) => checked,
         Err(fault) => return Err(fault),
     };
-    let told = match diagnostics_of(alloc, &program.root, &tables.plan, options) {
+    let told = match diagnostics_of(alloc, &program.root, &checked.tables.plan, options) {
         Ok(told) => told,
         Err(_) => {
-            drop(tables);
+            drop(checked);
             return Err(Fault::OutOfMemory);
         }
     };
     let staying = match staying_wrappers(alloc, &program.root, told.as_slice(), options) {
         Ok(staying) => staying,
         Err(_) => {
-            drop(tables);
+            drop(checked);
             return Err(Fault::OutOfMemory);
         }
     };
-    match rewrite_and_test(alloc, program, options, tables, staying) {
+    match rewrite_and_test(alloc, program, options, checked, staying) {
         Ok(()) => Ok(told),
         Err(fault) => Err(fault),
     }
 }
 
-/// Rewrites the program, of which the tables are known and in which these wrappers may stay, and tests what comes out against its
+/// Rewrites the program, of which that is known and in which these wrappers may stay, and tests what comes out against its
 /// effect word, which is read before.
 ///
 /// # Errors
@@ -159,22 +169,24 @@ fn rewrite_and_test(
     alloc: Global,
     program: &mut Program,
     options: &TransformOptions,
-    tables: Tables,
+    checked: Checked,
     staying: WrappedTargets,
 ) -> Result<(), Fault>
     ensures judged { OnOk result (Judges
-        (expected_beside staying tables.scoping (asked_of tables.plan) (transform_view options.now) (node_doc program.old.root))
+        (expected_beside staying checked.tables.scoping checked.groups (asked_of checked.tables.plan) (transform_view options.now) (node_doc program.old.root))
         (node_doc program.new.root) None) }
     ensures comes_back { OnOk result (ComesBack (transform_view options.now)
         (node_doc program.old.root) (node_doc program.new.root)) }
     ensures failed { IfErr result (λ f. IsFailure (refusal_in f)
-        (expected_beside staying tables.scoping (asked_of tables.plan) (transform_view options.now) (node_doc program.old.root))
+        (expected_beside staying checked.tables.scoping checked.groups (asked_of checked.tables.plan) (transform_view options.now) (node_doc program.old.root))
         (node_doc program.new.root)) }
 {
+    let Checked { tables, groups } = checked;
     let expected = Expected::beside(
         alloc,
         &program.root,
         &tables.scoping,
+        groups,
         &tables.plan,
         options,
         staying,
@@ -225,21 +237,22 @@ fn resolve_and_check(
     alloc: Global,
     program: &Program,
     options: &TransformOptions,
-) -> Result<Tables, Fault>
-    ensures table { IfOk result (λ t. t.scoping ≡ resolved options.now.decorator.legacy (node_doc program.now.root)) }
-    ensures plan { IfOk result (λ t. Answers t.plan
-        (facts_of t.scoping (node_doc program.now.root) (transform_view options.now))) }
+) -> Result<Checked, Fault>
+    ensures table { IfOk result (λ c. c.tables.scoping ≡ resolved options.now.decorator.legacy (node_doc program.now.root)) }
+    ensures groups { IfOk result (λ c. c.groups ≡ groups_of options.now.decorator.legacy (node_doc program.now.root)) }
+    ensures plan { IfOk result (λ c. Answers c.tables.plan
+        (facts_of c.tables.scoping (node_doc program.now.root) (transform_view options.now))) }
     ensures accepted { OnOk result (fault_of (transform_view options.now) (node_doc program.now.root) ≡ None) }
     ensures refused { IfErr result (λ f. IsFaultOf (refusal_in f)
         (resolved options.now.decorator.legacy (node_doc program.now.root)) (node_doc program.now.root) (transform_view options.now)) }
 {
-    match resolve(alloc, &program.root, options.decorator.legacy) {
-        Ok(scoping) => check_resolved(alloc, program, scoping, options),
+    match resolve_names(alloc, &program.root, options.decorator.legacy) {
+        Ok(names) => check_resolved(alloc, program, names, options),
         Err(_) => Err(Fault::OutOfMemory),
     }
 }
 
-/// Checks the program, whose table of scopes and symbols that is.
+/// Checks the program, whose names are resolved so.
 ///
 /// # Errors
 ///
@@ -247,21 +260,27 @@ fn resolve_and_check(
 fn check_resolved(
     alloc: Global,
     program: &Program,
-    scoping: Scoping,
+    names: Resolution,
     options: &TransformOptions,
-) -> Result<Tables, Fault>
-    ensures table { IfOk result (λ t. t.scoping ≡ scoping) }
-    ensures plan { IfOk result (λ t. Answers t.plan
-        (facts_of t.scoping (node_doc program.now.root) (transform_view options.now))) }
+) -> Result<Checked, Fault>
+    ensures table { IfOk result (λ c. c.tables.scoping ≡ names.scoping) }
+    ensures groups { IfOk result (λ c. c.groups ≡ names.groups) }
+    ensures plan { IfOk result (λ c. Answers c.tables.plan
+        (facts_of c.tables.scoping (node_doc program.now.root) (transform_view options.now))) }
     ensures accepted { OnOk result
-        (first_fault scoping (node_doc program.now.root) (transform_view options.now) ≡ None) }
+        (first_fault names.scoping (node_doc program.now.root) (transform_view options.now) ≡ None) }
     ensures refused { IfErr result
-        (λ f. IsFaultOf (refusal_in f) scoping (node_doc program.now.root) (transform_view options.now)) }
+        (λ f. IsFaultOf (refusal_in f) names.scoping (node_doc program.now.root) (transform_view options.now)) }
 {
+    let Resolution { scoping, groups } = names;
     match check(alloc, program, &scoping, options) {
-        Ok(plan) => Ok(Tables { scoping, plan }),
+        Ok(plan) => {
+            let tables = Tables { scoping, plan };
+            Ok(Checked { tables, groups })
+        }
         Err(fault) => {
             drop(scoping);
+            drop(groups);
             Err(fault)
         }
     }

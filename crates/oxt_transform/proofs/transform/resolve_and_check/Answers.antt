@@ -7,7 +7,7 @@ use Rattle.oxt_tree.specs.View.{node_doc}
 use Rattle.oxt_transform.proofs.transform.resolve_and_check.Goals as goal
 
 pub returns-in-Ok-clause-accepted : goal.returns-in-Ok-clause-accepted
-returns-in-Ok-clause-accepted c = subst (λ s. OnOk c.check_resolved.result (first_fault s (node_doc c.args.program.now.root) (transform_view c.args.options.now) ≡ None)) c.in-Ok.ensures c.check_resolved.ensures.accepted
+returns-in-Ok-clause-accepted c = subst (λ s. OnOk c.check_resolved.result (first_fault s (node_doc c.args.program.now.root) (transform_view c.args.options.now) ≡ None)) c.in-Ok.ensures.table c.check_resolved.ensures.accepted
 
 pub returns-in-Ok-clause-refused : goal.returns-in-Ok-clause-refused
-returns-in-Ok-clause-refused c = subst (λ s. IfErr c.check_resolved.result (λ f. IsFaultOf (refusal_in f) s (node_doc c.args.program.now.root) (transform_view c.args.options.now))) c.in-Ok.ensures c.check_resolved.ensures.refused
+returns-in-Ok-clause-refused c = subst (λ s. IfErr c.check_resolved.result (λ f. IsFaultOf (refusal_in f) s (node_doc c.args.program.now.root) (transform_view c.args.options.now))) c.in-Ok.ensures.table c.check_resolved.ensures.refused
