@@ -7,6 +7,7 @@ use oxt_lines::lines::Lines;
 use oxt_lines::stopped::Stopped;
 use oxt_lines::table::Table;
 use oxt_metadata::symbols::NamedSymbols;
+use oxt_modules::jsx::jsx_use;
 use oxt_modules::kept::kept_nodes;
 use oxt_names::constant::ConstantValue;
 use oxt_names::ids::NodeId;
@@ -114,7 +115,8 @@ fn inlined_beside(
     named: &NamedSymbols,
     options: &TypeScriptOptions,
 ) -> Result<Vec<(NodeId, ConstantValue)>, Stopped> {
-    let kept = kept_nodes(alloc, program, scoping, named, options, false)?;
+    let jsx = jsx_use(alloc, program, false)?;
+    let kept = kept_nodes(alloc, program, scoping, named, jsx, options)?;
     let inlined = inlined_expressions(alloc, program, scoping, &kept, options);
     drop(kept);
     Ok(inlined?)
@@ -154,7 +156,8 @@ fn dropped_beside(
     named: &NamedSymbols,
     options: &TypeScriptOptions,
 ) -> Result<Vec<NodeId>, Stopped> {
-    let kept = kept_nodes(alloc, program, scoping, named, options, false)?;
+    let jsx = jsx_use(alloc, program, false)?;
+    let kept = kept_nodes(alloc, program, scoping, named, jsx, options)?;
     let dropped = dropped_blocks(alloc, program, scoping, &kept, named, options, false);
     drop(kept);
     Ok(dropped?)

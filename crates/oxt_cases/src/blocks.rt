@@ -3,6 +3,7 @@
 use crate::pieces::{Piece, put};
 use oxt_enum_checks::first::first_blocks;
 use oxt_enum_checks::merges::merge_faults;
+use oxt_enum_checks::places::Places;
 use oxt_names::ids::{NodeId, OutOfMemory};
 use oxt_resolve::resolve::resolve;
 use oxt_scoping::scoping::Scoping;
@@ -28,8 +29,10 @@ fn put_first_by(
     scoping: &Scoping,
     lines: &mut String,
 ) -> Result<(), OutOfMemory> {
-    let blocks = first_blocks(alloc, program, scoping)?;
-    put_numbers(blocks.as_slice(), lines)
+    let places = Places::of_tree(alloc, program)?;
+    let blocks = first_blocks(alloc, program, scoping, &places);
+    drop(places);
+    put_numbers(blocks?.as_slice(), lines)
 }
 
 /// Puts the numbers, a line each.
@@ -64,7 +67,10 @@ fn put_clash_by(
     scoping: &Scoping,
     lines: &mut String,
 ) -> Result<(), OutOfMemory> {
-    match merge_faults(alloc, program, scoping)?.clash {
+    let places = Places::of_tree(alloc, program)?;
+    let faults = merge_faults(alloc, program, scoping, &places);
+    drop(places);
+    match faults?.clash {
         Some(number) => put_number(number.0, lines),
         None => put(lines, &[Piece::Text("-\n")]),
     }

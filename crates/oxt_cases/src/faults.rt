@@ -2,6 +2,7 @@
 
 use crate::pieces::{Piece, put};
 use oxt_enum_checks::misnamed::first_misnamed;
+use oxt_enum_checks::misused::first_misused;
 use oxt_enum_checks::shadowed::{ShadowedName, first_shadowed};
 use oxt_enum_checks::wide::first_wide;
 use oxt_names::ids::{NodeId, OutOfMemory};
@@ -30,7 +31,8 @@ fn put_found(
     scoping: &Scoping,
     lines: &mut String,
 ) -> Result<(), OutOfMemory> {
-    let misnamed = first_misnamed(alloc, program, scoping, false)?;
+    let misused = first_misused(program, scoping, false);
+    let misnamed = first_misnamed(alloc, program, scoping, false, misused)?;
     put_node("misnamed", misnamed, lines)?;
     let shadowed = first_shadowed(alloc, program, scoping, false)?;
     put_shadowed(shadowed, lines)?;

@@ -5,6 +5,7 @@ use crate::decorated::{put_accessor, put_applied, put_called, put_decorated, put
 use crate::namespaces::{put_export, put_namespace, put_quasi, put_stored};
 use crate::pieces::{Piece, put};
 use oxt_enum_checks::first::first_blocks;
+use oxt_enum_checks::places::Places;
 use oxt_facts::told::{MemberValue, Told, ToldBlock, ToldMember, ToldNodes};
 use oxt_fields::aliases::alias_uses;
 use oxt_fields::rules::FieldRules;
@@ -13,6 +14,7 @@ use oxt_inline::dropped::dropped_blocks;
 use oxt_inline::inlined::inlined_expressions;
 use oxt_metadata::Metadata;
 use oxt_metadata::symbols::NamedSymbols;
+use oxt_modules::jsx::jsx_use;
 use oxt_modules::kept::kept_nodes;
 use oxt_names::constant::ConstantValue;
 use oxt_names::ids::{NodeId, OutOfMemory};
@@ -163,7 +165,8 @@ fn note_kept(
     legacy: bool,
     lists: &mut PlanLists,
 ) -> Result<(), OutOfMemory> {
-    let kept = kept_nodes(alloc, program, scoping, named, typescript, legacy)?;
+    let jsx = jsx_use(alloc, program, legacy)?;
+    let kept = kept_nodes(alloc, program, scoping, named, jsx, typescript)?;
     lists.inlined = inlined_expressions(alloc, program, scoping, &kept, typescript)?;
     lists.dropped = dropped_blocks(alloc, program, scoping, &kept, named, typescript, legacy)?;
     lists.kept = kept.into_nodes();
@@ -177,7 +180,10 @@ fn note_names(
     scoping: &Scoping,
     lists: &mut PlanLists,
 ) -> Result<(), OutOfMemory> {
-    lists.first = first_blocks(alloc, program, scoping)?;
+    let places = Places::of_tree(alloc, program)?;
+    let first = first_blocks(alloc, program, scoping, &places);
+    drop(places);
+    lists.first = first?;
     lists.never_written = never_written_nodes(alloc, program, scoping)?;
     Ok(())
 }

@@ -1,11 +1,11 @@
 -- What a form that does not occur gives to the searches for what is wrong with it: nothing.
-use Rattle.std.proofs.Common.{◌≡◌, ◌∙◌, refl, sym, ap, ℕ, List, [], ◌∷◌, Bool, true, false, not, ◌&&◌, ◌||◌, cond, Option, None, Some, option_map, true≢false}
+use Rattle.std.proofs.Common.{◌≡◌, ◌∙◌, refl, sym, ap, ℕ, List, [], ◌∷◌, Bool, true, false, not, ◌&&◌, ◌||◌, ◌==◌, cond, Option, None, Some, option_map, true≢false}
 use Rattle.std.specs.List.{list_any}
 use Rattle.std.specs.Option.{option_or}
 use Rattle.std.specs.Prelude.{codes, is_none}
 use Rattle.std.specs.Str.{bytes_eq}
-use Rattle.oxt_check.specs.Misplacements.{class_misplacement, of_element}
-use Rattle.oxt_check.specs.Occurring.{has_class, makes_names, occurring, occurs}
+use Rattle.oxt_check.specs.Misplacements.{MisusesNone, class_misplacement, of_element}
+use Rattle.oxt_check.specs.Occurring.{has_block, has_class, has_jsx, makes_names, names_elements, occurring, occurs}
 use Rattle.oxt_check.proofs.Formless.{AreForms, GivesAtAlone, GivesNothingIn, GoesIntoIn, GoesOnIn, goes_into, goes_on, idle_in, neither, none_in}
 use Rattle.oxt_class_checks.specs.Class.{class_facts, is_class}
 use Rattle.oxt_class_checks.specs.Misplaced as elements
@@ -13,6 +13,15 @@ use Rattle.oxt_class_checks.specs.Misplaced.{around_inside, fault_in}
 use Rattle.oxt_class_checks.specs.Refused.{refused_accessors}
 use Rattle.oxt_class_checks.specs.declared.class.ClassFacts.{ClassFacts}
 use Rattle.oxt_declares.specs.Dropped.{inside_dropped_by, is_dropped_by, keeps_decorators}
+use Rattle.oxt_enum_checks.specs.Clash.{first_clash, least_clash}
+use Rattle.oxt_enum_checks.specs.First.{first_blocks, numbers_of}
+use Rattle.oxt_enum_checks.specs.LateBase.{late_base, least_late}
+use Rattle.oxt_enum_checks.specs.Misused as misuse
+use Rattle.oxt_enum_checks.specs.Misused.{HasNoWrittenMember, by_number, by_value, is_misused_as, is_misused_use, misused, misused_at, names_element}
+use Rattle.oxt_enum_checks.specs.Places.{Placed, places_of}
+use Rattle.oxt_enum_checks.specs.Sought.{block_named, first_names, is_block_kind, named_blocks, sought_blocks}
+use Rattle.oxt_enum_checks.specs.declared.sought.Sought.{Sought}
+use Rattle.oxt_enum_checks.specs.declared.sought.Sought.TheVariants as sought
 use Rattle.oxt_faults.specs.Around.{elements_in, no_class}
 use Rattle.oxt_faults.specs.Earliest.{earliest}
 use Rattle.oxt_faults.specs.Free as frees
@@ -36,8 +45,14 @@ use Rattle.oxt_grammar.specs.Places.{same_kind}
 use Rattle.oxt_grammar.specs.declared.kind.Kind.{Kind}
 use Rattle.oxt_grammar.specs.declared.kind.Kind.TheVariants as kind
 use Rattle.oxt_modules.specs.Aliases.{alias_named, alias_search, left_out, left_out_names}
+use Rattle.oxt_modules.specs.Jsx as jsx
+use Rattle.oxt_modules.specs.Jsx.{jsx_use, use_of}
+use Rattle.oxt_modules.specs.declared.jsx.JsxNode.TheVariants as jsx_node
 use Rattle.oxt_declares.specs.Imports.{is_required}
-use Rattle.oxt_scoping.specs.Scoped.{Scoped}
+use Rattle.oxt_names.specs.declared.ids.ReferenceId.{ReferenceId}
+use Rattle.oxt_scoping.specs.Scoped.{Scoped, at_node, live_at, still}
+use Rattle.oxt_scoping.specs.declared.entry.Reference.{Reference}
+use Rattle.std.specs.Int.RustNames.{bit_and}
 use Rattle.oxt_search.proofs.Nothing.{either_none}
 use Rattle.oxt_names.specs.declared.ids.SymbolId.{SymbolId}
 use Rattle.oxt_options.specs.Facts.{is_in}
@@ -167,13 +182,13 @@ class_part k =
     (same_kind k kind.ClassDeclaration || same_kind k kind.ClassExpression)
     || (same_kind k kind.PropertyDefinition || same_kind k kind.AccessorProperty)
 
--- one of the last four
-among_last : (a p c e : Bool) → ((c || e) || (p || a)) ≡ true → (a || (p || (c || (e || false)))) ≡ true
-among_last true p c e h = refl
-among_last false true c e h = refl
-among_last false false true e h = refl
-among_last false false false true h = refl
-among_last false false false false h = h
+-- one of the four behind the first
+among_four : (a p c e more : Bool) → ((c || e) || (p || a)) ≡ true → (a || (p || (c || (e || more)))) ≡ true
+among_four true p c e more h = refl
+among_four false true c e more h = refl
+among_four false false true e more h = refl
+among_four false false false true more h = refl
+among_four false false false false more h = absurd (true≢false (sym h))
 
 part_is_form : AreForms class_part
 part_is_form k h =
@@ -181,7 +196,7 @@ part_is_form k h =
     (behind (same_kind k kind.TSModuleBlock) _
     (behind (same_kind k kind.TSImportEqualsDeclaration) _
     (behind (same_kind k kind.TSExportAssignment) _
-    (among_last (same_kind k kind.AccessorProperty) (same_kind k kind.PropertyDefinition) (same_kind k kind.ClassDeclaration) (same_kind k kind.ClassExpression) h))))
+    (among_four (same_kind k kind.AccessorProperty) (same_kind k kind.PropertyDefinition) (same_kind k kind.ClassDeclaration) (same_kind k kind.ClassExpression) _ h))))
 
 crossed : (a b c d : Bool) → ((a || b) || (c || d)) ≡ ((a || c) || (b || d))
 crossed true b c d = refl
@@ -264,3 +279,128 @@ no_moved s r d h =
 
     gives : GivesAtAlone class_part (moved.sought s r again)
     gives a k i ds off = either_none (is_dropped_by k ds) (captured_at s r again a k ds) (other a k ds off)
+
+-- ---- blocks
+
+-- behind the eight forms before them
+behind_eight : (k : Kind) (more : Bool) → more ≡ true
+    → (same_kind k kind.TSEnumMember || (same_kind k kind.TSModuleBlock || (same_kind k kind.TSImportEqualsDeclaration || (same_kind k kind.TSExportAssignment || (same_kind k kind.AccessorProperty || (same_kind k kind.PropertyDefinition || (same_kind k kind.ClassDeclaration || (same_kind k kind.ClassExpression || more)))))))) ≡ true
+behind_eight k more h =
+    behind (same_kind k kind.TSEnumMember) _
+    (behind (same_kind k kind.TSModuleBlock) _
+    (behind (same_kind k kind.TSImportEqualsDeclaration) _
+    (behind (same_kind k kind.TSExportAssignment) _
+    (behind (same_kind k kind.AccessorProperty) _
+    (behind (same_kind k kind.PropertyDefinition) _
+    (behind (same_kind k kind.ClassDeclaration) _
+    (behind (same_kind k kind.ClassExpression) more h)))))))
+
+-- one of the first two
+among_two : (a b more : Bool) → (a || b) ≡ true → (a || (b || more)) ≡ true
+among_two true b more h = refl
+among_two false true more h = refl
+among_two false false more h = absurd (true≢false (sym h))
+
+block_kind_is_form : AreForms is_block_kind
+block_kind_is_form k h = behind_eight k _ (among_two (same_kind k kind.TSEnumDeclaration) (same_kind k kind.TSNamespaceDeclaration) _ h)
+
+no_sought : (p : Placed) (o : Sought) (s : Scoped) (d : Doc) → has_block d ≡ false → sought_blocks p o s d ≡ []
+no_sought p o s d h =
+    none_in is_block_kind (named_blocks s (first_names p o s.symbols)) block_kind_is_form gives d tt
+    (any_either (one kind.TSEnumDeclaration) (one kind.TSNamespaceDeclaration) (occurring d) ∙ h)
+  where
+    gives : GivesAtAlone is_block_kind (named_blocks s (first_names p o s.symbols))
+    gives u k i ds off = ap (λ b. cond b (block_named s (first_names p o s.symbols) i (named (codes "id") k ds)) None) off
+
+pub no_block_first : (s : Scoped) (d : Doc) → has_block d ≡ false → [] ≡ first_blocks s d
+no_block_first s d h = sym (ap numbers_of (no_sought (places_of d) sought.Any s d h))
+
+pub no_block_late : (s : Scoped) (d : Doc) → has_block d ≡ false → None ≡ late_base s d
+no_block_late s d h = sym (ap (least_late s (places_of d)) (no_sought (places_of d) sought.Block s d h))
+
+pub no_block_clashes : (s : Scoped) (d : Doc) → has_block d ≡ false → None ≡ first_clash s d
+no_block_clashes s d h = sym (ap (least_clash s (places_of d)) (no_sought (places_of d) sought.Block s d h))
+
+-- ---- JSX
+
+abbrev jsx_kind : Kind → Bool
+jsx_kind k = same_kind k kind.JSXElement || same_kind k kind.JSXFragment
+
+jsx_kind_is_form : AreForms jsx_kind
+jsx_kind_is_form k h =
+    behind_eight k _
+    (behind (same_kind k kind.TSEnumDeclaration) _
+    (behind (same_kind k kind.TSNamespaceDeclaration) _
+    (among_two (same_kind k kind.JSXElement) (same_kind k kind.JSXFragment) _ h)))
+
+pub no_jsx : (legacy : Bool) (d : Doc) → has_jsx d ≡ false → use_of [] ≡ jsx_use legacy d
+no_jsx legacy d h =
+    sym (ap use_of (none_in jsx_kind (jsx.sought legacy) jsx_kind_is_form gives d tt (any_either (one kind.JSXElement) (one kind.JSXFragment) (occurring d) ∙ h)))
+  where
+    gives : GivesAtAlone jsx_kind (jsx.sought legacy)
+    gives u k i ds off =
+        let two = neither (same_kind k kind.JSXElement) (same_kind k kind.JSXFragment) off in
+        ap (λ b. cond b (Some jsx_node.Element) (cond (same_kind k kind.JSXFragment) (Some jsx_node.Fragment) None)) two.0
+        ∙ ap (λ b. cond b (Some jsx_node.Fragment) None) two.1
+
+-- ---- bare names of members
+
+-- one of the last three
+among_last : (a b c : Bool) → (a || (b || c)) ≡ true → (a || (b || (c || false))) ≡ true
+among_last true b c h = refl
+among_last false true c h = refl
+among_last false false true h = refl
+among_last false false false h = h
+
+names_element_is_form : AreForms names_element
+names_element_is_form k h =
+    behind_eight k _
+    (behind (same_kind k kind.TSEnumDeclaration) _
+    (behind (same_kind k kind.TSNamespaceDeclaration) _
+    (behind (same_kind k kind.JSXElement) _
+    (behind (same_kind k kind.JSXFragment) _
+    (among_last (same_kind k kind.JSXOpeningElement) (same_kind k kind.JSXClosingElement) (same_kind k kind.JSXMemberExpression) h)))))
+
+-- what a name is used as is what its reference says
+not_written : (s : Scoped) → HasNoWrittenMember s → (o : Option ReferenceId) → is_misused_use s false (by_number s o) ≡ false
+not_written s none None = refl
+not_written s none (Some r) = by (live_at s.references r.0) (none r.0)
+  where
+    -- a use in a type counts as none
+    of_use : (t : Bool) (q : Reference) → is_misused_as s false q ≡ false → is_misused_use s false (cond t None (Some q)) ≡ false
+    of_use true q h = refl
+    of_use false q h = h
+
+    by : (o : Option Reference) → is_misused_use s false o ≡ false → is_misused_use s false (by_value o) ≡ false
+    by None h = refl
+    by (Some q) h = of_use (bit_and q.flags.0 4 == 4) q h
+
+names_elements_are : (d : Doc) → list_any names_element (occurring d) ≡ names_elements d
+names_elements_are d =
+    any_either (one kind.JSXOpeningElement) (λ k. one kind.JSXClosingElement k || one kind.JSXMemberExpression k) (occurring d)
+    ∙ ap (λ b. occurs d kind.JSXOpeningElement || b) (any_either (one kind.JSXClosingElement) (one kind.JSXMemberExpression) (occurring d))
+
+pub no_misused : (legacy : Bool) (s : Scoped) (d : Doc) → MisusesNone s d → None ≡ misused legacy s d
+no_misused legacy s d h =
+    sym (ap first (idle_in names_element not (misuse.sought legacy s) names_element_is_form gives goes into d false refl (names_elements_are d ∙ h.1)))
+  where
+    -- a name that names no element is misused where it is written
+    at_none : (b : Bool) (i : ℕ) → not b ≡ true → misused_at s b i ≡ None
+    at_none true i on = absurd (true≢false (sym on))
+    at_none false i on = ap (λ c. cond c (Some i) None) (not_written s h.0 (still s.references (at_node (record { 0 = i }) s.named)))
+
+    gives : GivesNothingIn names_element not (misuse.sought legacy s)
+    gives b k i ds off on = either_none (is_dropped_by k ds) (misused_at s b i) (at_none b i on)
+
+    turn : (b : Bool) (x y : Inside Bool) → goes_on not x ≡ true → goes_on not y ≡ true → goes_on not (cond b x y) ≡ true
+    turn true x y e h = e
+    turn false x y e h = h
+
+    goes : GoesOnIn names_element not (misuse.sought legacy s)
+    goes b k i ds off on =
+        turn (is_dropped_by k ds) (inside_dropped_by legacy k ds false) (inside.Alike (names_element k))
+        (turn (keeps_decorators legacy k ds) (inside.Only field.Decorators false) inside.Skipped refl refl)
+        (ap not off)
+
+    into : GoesIntoIn names_element not (misuse.sought legacy s)
+    into b k f off on = on

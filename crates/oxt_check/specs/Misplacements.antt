@@ -1,11 +1,13 @@
 -- The first misplaced node of a program, of all kinds.
-use Rattle.std.specs.Prelude.{ℕ, Bool, ◌&&◌, ◌||◌, nat_lt, nat_eq, if◌then◌else◌, Option, None, Some, option_map}
+use Rattle.std.specs.Prelude.{◌≡◌, ℕ, Bool, false, ◌&&◌, ◌||◌, nat_lt, nat_eq, if◌then◌else◌, Option, None, Some, option_map}
+use Rattle.oxt_check.specs.Occurring.{names_elements}
 use Rattle.oxt_class_checks.specs.Misplaced.{ElementFault, misplaced_element}
 use Rattle.oxt_class_checks.specs.declared.misplaced.ClassFault.{ClassFault}
 use Rattle.oxt_class_checks.specs.declared.misplaced.ClassFault.TheVariants as class_fault
 use Rattle.oxt_enum_checks.specs.Clash.{first_clash}
 use Rattle.oxt_enum_checks.specs.LateBase.{late_base}
 use Rattle.oxt_enum_checks.specs.Misnamed.{misnamed}
+use Rattle.oxt_enum_checks.specs.Misused.{HasNoWrittenMember}
 use Rattle.oxt_faults.specs.Misplaced.{Misplacement, misplaced}
 use Rattle.oxt_faults.specs.declared.misplaced.MisplacedKind.{MisplacedKind}
 use Rattle.oxt_faults.specs.declared.misplaced.MisplacedKind.TheVariants as misplaced_kind
@@ -38,6 +40,10 @@ former (Some m) (Some n) = Some (if is_before n m then n else m)
 -- the node of that number, as misplaced in that way
 abbrev pub of_kind : MisplacedKind → Option ℕ → Option Misplacement
 of_kind k n = option_map (λ (i : ℕ). (k, i)) n
+
+-- no bare name of a member of an enum is written or may name an element of JSX
+abbrev pub MisusesNone : Scoped → Doc → Type 0
+MisusesNone s d = HasNoWrittenMember s × (names_elements d ≡ false)
 
 -- the first that names decide: a function or class behind a namespace of its name, a declaration that does not merge, a
 -- member of an enum or a bare name of one

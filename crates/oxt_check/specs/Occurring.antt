@@ -19,7 +19,14 @@ form_kinds =
     kind.AccessorProperty ∷
     kind.PropertyDefinition ∷
     kind.ClassDeclaration ∷
-    kind.ClassExpression ∷ []
+    kind.ClassExpression ∷
+    kind.TSEnumDeclaration ∷
+    kind.TSNamespaceDeclaration ∷
+    kind.JSXElement ∷
+    kind.JSXFragment ∷
+    kind.JSXOpeningElement ∷
+    kind.JSXClosingElement ∷
+    kind.JSXMemberExpression ∷ []
 
 -- the kind is one of these
 abbrev pub is_form : Kind → Bool
@@ -55,3 +62,19 @@ abbrev pub has_class : Doc → Bool
 has_class d =
     (occurs d kind.ClassDeclaration || occurs d kind.ClassExpression)
     || (occurs d kind.PropertyDefinition || occurs d kind.AccessorProperty)
+
+-- that of a block of an enum or a namespace is among the kinds
+abbrev pub has_block_among : List Kind → Bool
+has_block_among ks = list_any (λ own. same_kind own kind.TSEnumDeclaration) ks || list_any (λ own. same_kind own kind.TSNamespaceDeclaration) ks
+
+-- such a block occurs
+abbrev pub has_block : Doc → Bool
+has_block d = has_block_among (occurring d)
+
+-- an element or a fragment of JSX occurs
+abbrev pub has_jsx : Doc → Bool
+has_jsx d = occurs d kind.JSXElement || occurs d kind.JSXFragment
+
+-- what the name of an element of JSX stands in occurs
+abbrev pub names_elements : Doc → Bool
+names_elements d = occurs d kind.JSXOpeningElement || (occurs d kind.JSXClosingElement || occurs d kind.JSXMemberExpression)

@@ -2,7 +2,9 @@
 ghost use Rattle.std.specs.Prelude.{◌≡◌, ℕ, None, Some, OnOk, IfOk, IfErr};
 ghost use Rattle.oxt_check.specs.Captures.{name_view};
 ghost use Rattle.oxt_check.specs.Faults.{IsFaultOf, IsThe, captured_refusal, code_fault, facts_by, facts_of, facts_with, listed_by, fault_by, first_fault, misplaced_refusal, place_fault, place_text, refusal_in};
+ghost use Rattle.oxt_enum_checks.specs.First.{first_blocks};
 ghost use Rattle.oxt_faults.specs.Misplaced.{misplaced_view};
+ghost use Rattle.oxt_modules.specs.Jsx.{jsx_use};
 ghost use Rattle.oxt_fields.specs.Aliases.{alias_uses};
 ghost use Rattle.oxt_fields.specs.Rules.{rules_in, rules_view};
 ghost use Rattle.oxt_options.specs.Options.{transform_view};
@@ -24,6 +26,7 @@ use oxt_fields::written::never_written_nodes;
 use oxt_inline::dropped::dropped_blocks;
 use oxt_inline::inlined::inlined_expressions;
 use oxt_metadata::Metadata;
+use oxt_modules::jsx::{JsxUse, jsx_use};
 use oxt_modules::kept::kept_nodes;
 use oxt_names::ids::{NodeId, OutOfMemory};
 use oxt_names::name::Name;
@@ -60,63 +63,82 @@ pub fn check(
     ensures refused { IfErr result
         (λ f. IsFaultOf (refusal_in f) scoping.now (node_doc program.now.root) (transform_view options.now)) }
 {
-    let metadata = Metadata::of(alloc, &program.root, scoping, options.decorator)?;
-    check_written(alloc, &program.root, scoping, &metadata, options)
+    let survey = Survey::of(alloc, &program.root)?;
+    check_surveyed(alloc, &survey, scoping, options)
+}
+
+/// Checks a program of which it is known which forms occur in it.
+fn check_surveyed(
+    alloc: Global,
+    survey: &Survey,
+    scoping: &Scoping,
+    options: &TransformOptions,
+) -> Result<Plan, Fault>
+    ensures plan { IfOk result
+        (λ plan. Answers plan (facts_of scoping.now (node_doc survey.now.program.now) (transform_view options.now))) }
+    ensures accepted { OnOk result
+        (first_fault scoping.now (node_doc survey.now.program.now) (transform_view options.now) ≡ None) }
+    ensures refused { IfErr result
+        (λ f. IsFaultOf (refusal_in f) scoping.now (node_doc survey.now.program.now) (transform_view options.now)) }
+{
+    let metadata = Metadata::of(alloc, survey.program, scoping, options.decorator)?;
+    check_written(alloc, survey, scoping, &metadata, options)
 }
 
 /// Checks a program in which metadata writes that.
 fn check_written(
     alloc: Global,
-    program: &Node,
+    survey: &Survey,
     scoping: &Scoping,
     metadata: &Metadata,
     options: &TransformOptions,
 ) -> Result<Plan, Fault>
     ensures plan { IfOk result
-        (λ plan. Answers plan (facts_with metadata.now scoping.now (node_doc program.now) (transform_view options.now))) }
+        (λ plan. Answers plan (facts_with metadata.now scoping.now (node_doc survey.now.program.now) (transform_view options.now))) }
     ensures accepted { OnOk result
-        (fault_by (facts_with metadata.now scoping.now (node_doc program.now) (transform_view options.now)) scoping.now (node_doc program.now) (transform_view options.now) ≡ None) }
+        (fault_by (facts_with metadata.now scoping.now (node_doc survey.now.program.now) (transform_view options.now)) scoping.now (node_doc survey.now.program.now) (transform_view options.now) ≡ None) }
     ensures refused { IfErr result (λ f. IsThe (refusal_in f)
-        (fault_by (facts_with metadata.now scoping.now (node_doc program.now) (transform_view options.now)) scoping.now (node_doc program.now) (transform_view options.now))) }
+        (fault_by (facts_with metadata.now scoping.now (node_doc survey.now.program.now) (transform_view options.now)) scoping.now (node_doc survey.now.program.now) (transform_view options.now))) }
 {
+    let jsx = jsx_of(alloc, survey, options.decorator.legacy)?;
     let kept = kept_nodes(
         alloc,
-        program,
+        survey.program,
         scoping,
         metadata.named(),
+        jsx,
         &options.typescript,
-        options.decorator.legacy,
     )?;
-    check_kept(alloc, program, scoping, metadata, kept, options)
+    check_kept(alloc, survey, scoping, metadata, kept, options)
 }
 
 /// Checks a program in which metadata writes that, and that is kept.
 fn check_kept(
     alloc: Global,
-    program: &Node,
+    survey: &Survey,
     scoping: &Scoping,
     metadata: &Metadata,
     kept: NodeList,
     options: &TransformOptions,
 ) -> Result<Plan, Fault>
     ensures plan { IfOk result
-        (λ plan. Answers plan (facts_by metadata.now kept scoping.now (node_doc program.now) (transform_view options.now))) }
+        (λ plan. Answers plan (facts_by metadata.now kept scoping.now (node_doc survey.now.program.now) (transform_view options.now))) }
     ensures accepted { OnOk result
-        (fault_by (facts_by metadata.now kept scoping.now (node_doc program.now) (transform_view options.now)) scoping.now (node_doc program.now) (transform_view options.now) ≡ None) }
+        (fault_by (facts_by metadata.now kept scoping.now (node_doc survey.now.program.now) (transform_view options.now)) scoping.now (node_doc survey.now.program.now) (transform_view options.now) ≡ None) }
     ensures refused { IfErr result (λ f. IsThe (refusal_in f)
-        (fault_by (facts_by metadata.now kept scoping.now (node_doc program.now) (transform_view options.now)) scoping.now (node_doc program.now) (transform_view options.now))) }
+        (fault_by (facts_by metadata.now kept scoping.now (node_doc survey.now.program.now) (transform_view options.now)) scoping.now (node_doc survey.now.program.now) (transform_view options.now))) }
 {
     let nodes = kept.into_nodes();
     let list = list_of(alloc, nodes.as_slice())?;
-    let listed = plan_by(alloc, program, scoping, metadata, &list, nodes, options)?;
-    let plan = with_aliases(alloc, program, scoping, listed, options)?;
-    check_planned(alloc, program, scoping, &list, plan, options)
+    let listed = plan_by(alloc, survey, scoping, metadata, &list, nodes, options)?;
+    let plan = with_aliases(alloc, survey.program, scoping, listed, options)?;
+    check_planned(alloc, survey, scoping, &list, plan, options)
 }
 
 /// Checks a program in which that is kept, whose plan that is.
 fn check_planned(
     alloc: Global,
-    program: &Node,
+    survey: &Survey,
     scoping: &Scoping,
     kept: &NodeList,
     plan: Plan,
@@ -124,12 +146,12 @@ fn check_planned(
 ) -> Result<Plan, Fault>
     ensures plan { IfOk result (λ p. p ≡ plan) }
     ensures accepted { OnOk result
-        (code_fault scoping.now (rules_in (transform_view options.now) plan) (is_in kept.now) (node_doc program.now) ≡ None) }
+        (code_fault scoping.now (rules_in (transform_view options.now) plan) (is_in kept.now) (node_doc survey.now.program.now) ≡ None) }
     ensures refused { IfErr result (λ f. IsThe (refusal_in f)
-        (code_fault scoping.now (rules_in (transform_view options.now) plan) (is_in kept.now) (node_doc program.now))) }
+        (code_fault scoping.now (rules_in (transform_view options.now) plan) (is_in kept.now) (node_doc survey.now.program.now))) }
 {
     let rules = FieldRules::new(options, &plan);
-    match check_code(alloc, program, scoping, rules, kept) {
+    match check_code(alloc, survey, scoping, rules, kept) {
         Ok(()) => Ok(plan),
         Err(fault) => {
             drop(plan);
@@ -142,43 +164,26 @@ fn check_planned(
 /// file of definitions, of which nothing is left.
 fn check_code(
     alloc: Global,
-    program: &Node,
+    survey: &Survey,
     scoping: &Scoping,
     rules: FieldRules,
     kept: &NodeList,
 ) -> Result<(), Fault>
     ensures accepted { OnOk result
-        (code_fault scoping.now (rules_view rules.entry) (is_in kept.now) (node_doc program.now) ≡ None) }
+        (code_fault scoping.now (rules_view rules.entry) (is_in kept.now) (node_doc survey.now.program.now) ≡ None) }
     ensures refused { IfErr result (λ f. IsThe (refusal_in f)
-        (code_fault scoping.now (rules_view rules.entry) (is_in kept.now) (node_doc program.now))) }
+        (code_fault scoping.now (rules_view rules.entry) (is_in kept.now) (node_doc survey.now.program.now))) }
 {
-    if program.is_definition_file() {
+    if survey.program.is_definition_file() {
         Ok(())
     } else {
-        check_places(alloc, program, scoping, rules, kept)
+        check_places(alloc, survey, scoping, rules, kept)
     }
 }
 
 /// Finds the first misplaced node, and else the first member whose constant would be too large, and else the first
 /// captured name, where fields are lowered by these rules and that is kept.
 fn check_places(
-    alloc: Global,
-    program: &Node,
-    scoping: &Scoping,
-    rules: FieldRules,
-    kept: &NodeList,
-) -> Result<(), Fault>
-    ensures accepted { OnOk result
-        (place_fault scoping.now (rules_view rules.entry) (is_in kept.now) (node_doc program.now) ≡ None) }
-    ensures refused { IfErr result (λ f. IsThe (refusal_in f)
-        (place_fault scoping.now (rules_view rules.entry) (is_in kept.now) (node_doc program.now))) }
-{
-    let survey = Survey::of(alloc, program)?;
-    check_surveyed(alloc, &survey, scoping, rules, kept)
-}
-
-/// The same of a program of which it is known which forms occur in it.
-fn check_surveyed(
     alloc: Global,
     survey: &Survey,
     scoping: &Scoping,
@@ -291,7 +296,7 @@ fn put_aliases(
 /// knows nothing yet.
 fn plan_by(
     alloc: Global,
-    program: &Node,
+    survey: &Survey,
     scoping: &Scoping,
     metadata: &Metadata,
     kept: &NodeList,
@@ -300,11 +305,12 @@ fn plan_by(
 ) -> Result<Plan, OutOfMemory>
     requires { numbers_in nodes.items ≡ kept.now }
     ensures { IfOk result
-        (λ plan. Answers plan (listed_by metadata.now kept.now scoping.now (node_doc program.now) (transform_view options.now))) }
+        (λ plan. Answers plan (listed_by metadata.now kept.now scoping.now (node_doc survey.now.program.now) (transform_view options.now))) }
 {
+    let program = survey.program;
     let typescript = &options.typescript;
     let mut lists = PlanLists::empty(alloc);
-    lists.first = first_blocks(alloc, program, scoping)?;
+    lists.first = first_of(alloc, survey, scoping)?;
     lists.inlined = inlined_expressions(alloc, program, scoping, kept, typescript)?;
     lists.dropped = dropped_blocks(
         alloc,
@@ -320,4 +326,29 @@ fn plan_by(
     lists.never_written = never_written_nodes(alloc, program, scoping)?;
     lists.kept = nodes;
     Plan::new(alloc, lists)
+}
+
+/// The blocks before which nothing of their name emits code.
+fn first_of(alloc: Global, survey: &Survey, scoping: &Scoping) -> Result<Vec<NodeId>, OutOfMemory>
+    ensures { IfOk result (λ nodes. numbers_in nodes.items ≡ first_blocks scoping.now (node_doc survey.now.program.now)) }
+{
+    if survey.has_block() {
+        first_blocks(alloc, survey.program, scoping, &survey.places)
+    } else {
+        Ok(Vec::new(alloc))
+    }
+}
+
+/// What the program has of JSX outside erased code.
+fn jsx_of(alloc: Global, survey: &Survey, legacy: bool) -> Result<JsxUse, OutOfMemory>
+    ensures { IfOk result (λ jsx. jsx ≡ jsx_use legacy (node_doc survey.now.program.now)) }
+{
+    if survey.has_jsx() {
+        jsx_use(alloc, survey.program, legacy)
+    } else {
+        Ok(JsxUse {
+            has_element: false,
+            has_fragment: false,
+        })
+    }
 }

@@ -1,10 +1,14 @@
 //! Which forms that only some programs have occur in a program. Where a form does not, a search for what may be wrong with it
 //! need not be made.
-ghost use Rattle.std.specs.Prelude.{◌≡◌, IfOk};
-ghost use Rattle.oxt_check.specs.Occurring.{form_at, form_kinds, forms, has_class, is_form, makes_names, occurring, occurs};
+ghost use Rattle.std.specs.Prelude.{◌≡◌, IfOk, true};
+ghost use Rattle.std.specs.List.{list_any};
+ghost use Rattle.oxt_check.specs.Occurring.{form_at, form_kinds, forms, has_block, has_block_among, has_class, has_jsx, is_form, makes_names, names_elements, occurring, occurs};
+ghost use Rattle.oxt_enum_checks.specs.Places.{places_in, places_of};
+ghost use Rattle.oxt_grammar.specs.Places.{same_kind};
 ghost use Rattle.oxt_grammar.specs.declared.kind.Kind.{Kind};
 ghost use Rattle.oxt_tree.specs.View.{node_doc};
 
+use oxt_enum_checks::places::Places;
 use oxt_grammar::holds::Row;
 use oxt_grammar::kind::Kind;
 use oxt_names::ids::OutOfMemory;
@@ -20,7 +24,10 @@ pub struct Survey<'a> {
     pub program: &'a Node,
     /// These kinds.
     pub kinds: Vec<Kind>,
+    /// The declarations of its names, if a block of an enum or a namespace occurs.
+    pub places: Places,
     ghost complete: { kinds.items ≡ occurring (node_doc program.now) },
+    ghost placed: { has_block (node_doc program.now) ≡ true → places_in places ≡ places_of (node_doc program.now) },
 }
 
 impl<'a> Survey<'a> {
@@ -34,14 +41,19 @@ impl<'a> Survey<'a> {
         ensures { IfOk result (λ survey. node_doc survey.program.now ≡ node_doc program.now) }
     {
         let kinds = all_in(alloc, &Forms, program, ())?;
-        Ok(Survey { program, kinds })
+        let places = places_of(alloc, program, kinds.as_slice())?;
+        Ok(Survey {
+            program,
+            kinds,
+            places,
+        })
     }
 
     /// Whether a node of the kind, which is one of such forms, occurs.
     pub fn has(&self, kind: Kind) -> bool
         ensures { result ≡ occurs (node_doc self.now.program.now) kind }
     {
-        self.kinds.iter().any(|own| own.is(kind))
+        is_among(self.kinds.as_slice(), kind)
     }
 
     /// Whether a form occurs for which a free name is made without decorators.
@@ -59,6 +71,55 @@ impl<'a> Survey<'a> {
         (self.has(Kind::ClassDeclaration) || self.has(Kind::ClassExpression))
             || (self.has(Kind::PropertyDefinition) || self.has(Kind::AccessorProperty))
     }
+
+    /// Whether a block of an enum or a namespace occurs.
+    pub fn has_block(&self) -> bool
+        ensures { result ≡ has_block (node_doc self.now.program.now) }
+    {
+        self.has(Kind::TSEnumDeclaration) || self.has(Kind::TSNamespaceDeclaration)
+    }
+
+    /// Whether an element or a fragment of JSX occurs.
+    pub fn has_jsx(&self) -> bool
+        ensures { result ≡ has_jsx (node_doc self.now.program.now) }
+    {
+        self.has(Kind::JSXElement) || self.has(Kind::JSXFragment)
+    }
+
+    /// Whether something occurs in which the name of an element of JSX stands.
+    pub fn names_elements(&self) -> bool
+        ensures { result ≡ names_elements (node_doc self.now.program.now) }
+    {
+        self.has(Kind::JSXOpeningElement)
+            || (self.has(Kind::JSXClosingElement) || self.has(Kind::JSXMemberExpression))
+    }
+}
+
+/// The declarations of the names of the program, in which such nodes of these kinds occur; none if no block is among them.
+fn places_of(alloc: Global, program: &Node, kinds: &[Kind]) -> Result<Places, OutOfMemory>
+    requires { kinds.now ≡ occurring (node_doc program.now) }
+    ensures { IfOk result
+        (λ places. has_block (node_doc program.now) ≡ true → places_in places ≡ places_of (node_doc program.now)) }
+{
+    if !has_block_among(kinds) {
+        return Ok(Places::none(alloc));
+    }
+    let places = Places::of_tree(alloc, program)?;
+    Ok(places)
+}
+
+/// Whether that of a block is among these kinds.
+fn has_block_among(kinds: &[Kind]) -> bool
+    ensures { result ≡ has_block_among kinds.now }
+{
+    is_among(kinds, Kind::TSEnumDeclaration) || is_among(kinds, Kind::TSNamespaceDeclaration)
+}
+
+/// Whether the kind is among these.
+fn is_among(kinds: &[Kind], kind: Kind) -> bool
+    ensures { result ≡ list_any (λ own. same_kind own kind) kinds.now }
+{
+    kinds.iter().any(|own| own.is(kind))
 }
 
 /// The search for nodes of such forms.
@@ -116,5 +177,12 @@ fn form_kinds() -> &'static [Kind]
         Kind::PropertyDefinition,
         Kind::ClassDeclaration,
         Kind::ClassExpression,
+        Kind::TSEnumDeclaration,
+        Kind::TSNamespaceDeclaration,
+        Kind::JSXElement,
+        Kind::JSXFragment,
+        Kind::JSXOpeningElement,
+        Kind::JSXClosingElement,
+        Kind::JSXMemberExpression,
     ]
 }

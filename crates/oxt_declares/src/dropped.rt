@@ -12,6 +12,7 @@ use oxt_tree::tree::{Node, Part};
 
 /// Whether the node is a declaration or an element of a class that stands for nothing at run time: by
 /// its kind, by `declare` or `type`, for want of a body, or as a namespace of types alone.
+#[inline(always)]
 pub fn is_dropped(node: &Node) -> bool
     ensures { result ≡ is_dropped (node_doc node.now) }
 {

@@ -4,9 +4,9 @@ use Rattle.std.specs.List.{list_any}
 use Rattle.std.specs.Map.{lookup}
 use Rattle.std.specs.Option.{option_eq}
 use Rattle.std.specs.Prelude.{codes, find, is_some, nat_eq, option_map, slice_get, slice_index_or}
-use Rattle.oxt_enum_checks.specs.Clash.{first_clash, least_clash}
-use Rattle.oxt_enum_checks.specs.LateBase.{late_base, least_late}
-use Rattle.oxt_enum_checks.specs.Places.{Placed, places_of}
+use Rattle.oxt_enum_checks.specs.Clash.{clash_by, least_clash}
+use Rattle.oxt_enum_checks.specs.LateBase.{late_by, least_late}
+use Rattle.oxt_enum_checks.specs.Places.{Placed}
 use Rattle.oxt_enum_checks.specs.Sort.{is_block, sort_of}
 use Rattle.oxt_enum_checks.specs.Sought.{HasNoBlock, block_if, block_named, blocks_in, first_at, first_name, first_names, has_block, is_block_kind, is_emitting_block, is_first, is_sought, named_blocks, own_block}
 use Rattle.oxt_enum_checks.specs.declared.sought.Block.{Block}
@@ -73,9 +73,9 @@ no_block p s h k i ds = pick (is_block_kind k) (block_named s (first_names p sou
 no_blocks : (p : Placed) (s : Scoped) (d : Doc) → HasNoBlock s → blocks_in s (first_names p sought.Block s.symbols) d ≡ []
 no_blocks p s d h = none_in (named_blocks s (first_names p sought.Block s.symbols)) (λ u k i ds. no_block p s h k i ds) d tt
 
-pub no_clash : (s : Scoped) (d : Doc) (b : Bool) → (b ≡ false → HasNoBlock s) → b ≡ false → None ≡ first_clash s d
-no_clash s d b none is = sym (ap (least_clash s (places_of d)) (no_blocks (places_of d) s d (none is)))
+pub no_clash : (p : Placed) (s : Scoped) (d : Doc) (b : Bool) → (b ≡ false → HasNoBlock s) → b ≡ false → None ≡ clash_by p s d
+no_clash p s d b none is = sym (ap (least_clash s p) (no_blocks p s d (none is)))
 
 -- and no function or class stands behind a namespace
-pub no_late : (s : Scoped) (d : Doc) (b : Bool) → (b ≡ false → HasNoBlock s) → b ≡ false → None ≡ late_base s d
-no_late s d b none is = sym (ap (least_late s (places_of d)) (no_blocks (places_of d) s d (none is)))
+pub no_late : (p : Placed) (s : Scoped) (d : Doc) (b : Bool) → (b ≡ false → HasNoBlock s) → b ≡ false → None ≡ late_by p s d
+no_late p s d b none is = sym (ap (least_late s p) (no_blocks p s d (none is)))

@@ -11,3 +11,4 @@ pub mod Seeks
 pub mod ShadowLoops
 pub mod Symbols
 pub mod WideLoops
+pub mod Written

@@ -14,7 +14,7 @@ use Rattle.oxt_enum_checks.specs.Misused.{HasNoMember, is_member, is_member_symb
 use Rattle.oxt_enum_checks.specs.Misused as misuse
 use Rattle.oxt_enum_checks.specs.Shadows.{Fields, Shadow, all_among, all_at, all_shadows, declares_name, each_shadows, field_shadows, initializer_shadows, left_shadows, member_shadows, own_shadow, read_shadows, shadowed, shadows, step_shadows, least}
 use Rattle.oxt_enum_checks.specs.Uses.{is_member_of, is_own_symbol, is_scope, means_member, scope_around}
-use Rattle.oxt_enum_checks.specs.Wide.{ends_with_largest, has_largest, is_largest_constant, value_of, wide, wide_among, wide_in}
+use Rattle.oxt_enum_checks.specs.Wide.{HasNoLargest, ends_with_largest, has_largest, wide, wide_among, wide_in}
 use Rattle.oxt_enum_checks.specs.Wide as wides
 use Rattle.oxt_enum_checks.specs.declared.members.EnumMember.{EnumMember}
 use Rattle.oxt_enum_checks.specs.declared.wide.WideMember.{WideMember}
@@ -92,16 +92,13 @@ pub no_members : (l : Bool) (s : Scoped) (d : Doc) (b : Bool) (ms : List EnumMem
 no_members l s d b ms none is empty =
     ap member_views empty ∙ sym (none_in (members.sought l s) (λ a k i ds. either_none (is_dropped_by k ds) (member_of s k i a) (no_member_of s (none is) k i a)) d None)
 
--- ---- constants
+-- ---- constants: where none is the largest, none behind it is too large
 
-not_largest : (o : Option SymbolData) → is_member_symbol o ≡ false → has_largest o ≡ false
-not_largest o h = ap (λ c. c && is_largest_constant (value_of o)) h
-
-not_largest_in : (s : Scoped) → HasNoMember s → (o : Option SymbolId) → has_largest (symbol_in s.symbols o) ≡ false
+not_largest_in : (s : Scoped) → HasNoLargest s → (o : Option SymbolId) → has_largest (symbol_in s.symbols o) ≡ false
 not_largest_in s h None = refl
-not_largest_in s h (Some i) = not_largest (slice_get s.symbols i.0) (h i.0)
+not_largest_in s h (Some i) = h i.0
 
-not_last : (s : Scoped) → HasNoMember s → (d : Doc) → ends_with_largest s d ≡ false
+not_last : (s : Scoped) → HasNoLargest s → (d : Doc) → ends_with_largest s d ≡ false
 not_last s h nil = refl
 not_last s h (flag b) = refl
 not_last s h (number n) = refl
@@ -109,11 +106,11 @@ not_last s h (text t) = refl
 not_last s h (list ds) = refl
 not_last s h (node k i b e ds) = not_largest_in s h (at_node (record { 0 = i }) s.declared)
 
-no_wide_among : (s : Scoped) → HasNoMember s → (ds : Docs) → wide_among s false ds ≡ None
+no_wide_among : (s : Scoped) → HasNoLargest s → (ds : Docs) → wide_among s false ds ≡ None
 no_wide_among s h no_docs = refl
 no_wide_among s h (doc d ds) = ap (λ b. wide_among s b ds) (not_last s h d) ∙ no_wide_among s h ds
 
-no_wide_body : (s : Scoped) → HasNoMember s → (k : Kind) (ds : Docs) → wide_in s k ds ≡ None
+no_wide_body : (s : Scoped) → HasNoLargest s → (k : Kind) (ds : Docs) → wide_in s k ds ≡ None
 no_wide_body s h k ds = pick (same_kind k kind.TSEnumBody) (wide_among s false (elements (named (codes "members") k ds))) (no_wide_among s h (elements (named (codes "members") k ds)))
   where
     pick : (b : Bool) (o : Option WideMember) → o ≡ None → cond b o None ≡ None
@@ -129,7 +126,7 @@ no_wide_inside true false alike by_field alone o none h e = refl
 no_wide_inside false keeps alike by_field alone o none h e = ap alike none ∙ h
 
 mutual
-  no_wide_in : (l : Bool) (s : Scoped) → HasNoMember s → (d : Doc) → all_in (wides.sought l s) d None ≡ []
+  no_wide_in : (l : Bool) (s : Scoped) → HasNoLargest s → (d : Doc) → all_in (wides.sought l s) d None ≡ []
   no_wide_in l s h nil = refl
   no_wide_in l s h (flag b) = refl
   no_wide_in l s h (number n) = refl
@@ -139,17 +136,17 @@ mutual
       no_wide_inside (is_dropped_by k ds) (l && is_declared_field k ds) (every.all_among (wides.sought l s) ds) (every.all_below (wides.sought l s) ds k (row_of k)) (λ f. every.all_at (wides.sought l s) ds (row_of k) (key_of f)) (wide_in s k ds)
       (no_wide_body s h k ds) (no_wides l s h ds) (no_wide_at l s h ds (row_of k) (codes "decorators"))
 
-  no_wides : (l : Bool) (s : Scoped) → HasNoMember s → (ds : Docs) → every.all_among (wides.sought l s) ds None ≡ []
+  no_wides : (l : Bool) (s : Scoped) → HasNoLargest s → (ds : Docs) → every.all_among (wides.sought l s) ds None ≡ []
   no_wides l s h no_docs = refl
   no_wides l s h (doc d ds) = ap (λ xs. xs ++ every.all_among (wides.sought l s) ds None) (no_wide_in l s h d) ∙ no_wides l s h ds
 
-  no_wide_at : (l : Bool) (s : Scoped) → HasNoMember s → (ds : Docs) (rs : List Field) (name : List ℕ) → every.all_at (wides.sought l s) ds rs name None ≡ []
+  no_wide_at : (l : Bool) (s : Scoped) → HasNoLargest s → (ds : Docs) (rs : List Field) (name : List ℕ) → every.all_at (wides.sought l s) ds rs name None ≡ []
   no_wide_at l s h no_docs rs name = refl
   no_wide_at l s h (doc d ds) [] name = refl
   no_wide_at l s h (doc d ds) (r ∷ rs) name =
       each_empty (bytes_eq r.name name) (all_in (wides.sought l s) d None) (every.all_at (wides.sought l s) ds rs name None) (no_wide_in l s h d) (no_wide_at l s h ds rs name)
 
-pub no_wide : (l : Bool) (s : Scoped) (d : Doc) (b : Bool) → (b ≡ false → HasNoMember s) → b ≡ false → None ≡ wide l s d
+pub no_wide : (l : Bool) (s : Scoped) (d : Doc) (b : Bool) → (b ≡ false → HasNoLargest s) → b ≡ false → None ≡ wide l s d
 no_wide l s d b none is = sym (ap first (no_wide_in l s (none is) d))
 
 -- ---- shadowed names

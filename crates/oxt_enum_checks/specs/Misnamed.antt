@@ -26,7 +26,11 @@ lesser None b = b
 lesser (Some m) None = Some m
 lesser (Some m) (Some n) = Some (min m n)
 
--- the lesser number of the first such member and the first bare name that is misused; the flag says whether decorators
+-- the lesser number of the first such member and that of a bare name that is misused; the flag says whether decorators
 -- have their older meaning
+abbrev pub misnamed_beside : Bool → Scoped → Doc → Option ℕ → Option ℕ
+misnamed_beside l s d found = lesser (first_repeated [] (members_of l s d)) found
+
+-- the same of the first such bare name
 abbrev pub misnamed : Bool → Scoped → Doc → Option ℕ
-misnamed l s d = lesser (first_repeated [] (members_of l s d)) (misused l s d)
+misnamed l s d = misnamed_beside l s d (misused l s d)

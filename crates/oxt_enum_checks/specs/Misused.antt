@@ -61,6 +61,10 @@ abbrev pub is_misused_use : Scoped → Bool → Option Reference → Bool
 is_misused_use s b None = false
 is_misused_use s b (Some r) = is_misused_as s b r
 
+-- no reference is that of a member that is written
+abbrev pub HasNoWrittenMember : Scoped → Type 0
+HasNoWrittenMember s = (n : ℕ) → is_misused_use s false (live_at s.references n) ≡ false
+
 -- the node of that number is such a name, where that says whether it names an element
 abbrev pub is_misused : Scoped → ℕ → Bool → Bool
 is_misused s n b = is_misused_use s b (value_use s n)

@@ -1,5 +1,5 @@
 -- The first blocks of symbols, of those declarations that are sought.
-use Rattle.std.specs.Prelude.{◌≡◌, ℕ, List, [], map, find, Bool, true, false, ◌&&◌, nat_eq, if◌then◌else◌, Option, None, Some, option_map, is_some, slice_get, slice_index_or, codes}
+use Rattle.std.specs.Prelude.{◌≡◌, ℕ, List, [], map, find, Bool, true, false, ◌&&◌, ◌||◌, nat_eq, if◌then◌else◌, Option, None, Some, option_map, is_some, slice_get, slice_index_or, codes}
 use Rattle.std.specs.List.{list_any}
 use Rattle.std.specs.Map.{lookup}
 use Rattle.std.specs.Option.{option_eq}
@@ -16,6 +16,7 @@ use Rattle.oxt_search.specs.Sought.{Sought as Search}
 use Rattle.oxt_tree.specs.declared.inside.Inside.TheVariants as inside
 use Rattle.oxt_names.specs.declared.flags.SymbolFlags.{SymbolFlags}
 use Rattle.oxt_names.specs.declared.ids.SymbolId.{SymbolId}
+use Rattle.oxt_grammar.specs.Places.{same_kind}
 use Rattle.oxt_grammar.specs.declared.kind.Kind.{Kind}
 use Rattle.oxt_grammar.specs.declared.kind.Kind.TheVariants as kind
 use Rattle.oxt_tree.specs.Doc.{Doc, node, Docs}
@@ -63,9 +64,7 @@ block_named s ns i d = None
 
 -- the kinds of blocks
 abbrev pub is_block_kind : Kind → Bool
-is_block_kind kind.TSEnumDeclaration = true
-is_block_kind kind.TSNamespaceDeclaration = true
-is_block_kind k = false
+is_block_kind k = same_kind k kind.TSEnumDeclaration || same_kind k kind.TSNamespaceDeclaration
 
 -- the node, if it is such a block
 abbrev pub own_block : Scoped → List (Option ℕ) → Kind → ℕ → Docs → Option Block

@@ -1,5 +1,5 @@
 -- The first member of an enum whose constant would be larger than the largest.
-use Rattle.std.specs.Prelude.{ℕ, Bool, false, ◌&&◌, ◌==◌, if◌then◌else◌, Option, None, Some, ℤ, pos, negsuc, codes}
+use Rattle.std.specs.Prelude.{◌≡◌, ℕ, Bool, false, ◌&&◌, ◌==◌, if◌then◌else◌, Option, None, Some, ℤ, pos, negsuc, codes, slice_get}
 use Rattle.oxt_enum_checks.specs.Misused.{is_member_symbol, symbol_in}
 use Rattle.oxt_enum_checks.specs.declared.wide.WideMember.{WideMember}
 use Rattle.oxt_scoping.specs.Entries.{SymbolData}
@@ -37,6 +37,10 @@ value_of (Some y) = y.value
 -- the symbol is that of a member whose constant is
 abbrev pub has_largest : Option SymbolData → Bool
 has_largest o = is_member_symbol o && is_largest_constant (value_of o)
+
+-- no symbol is
+abbrev pub HasNoLargest : Scoped → Type 0
+HasNoLargest s = (n : ℕ) → has_largest (slice_get s.symbols n) ≡ false
 
 -- that of the member of that number is
 abbrev pub has_largest_at : Scoped → ℕ → Bool

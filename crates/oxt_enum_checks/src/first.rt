@@ -1,6 +1,7 @@
 //! Blocks before which nothing of their name emits code.
 ghost use Rattle.std.specs.Prelude.{◌≡◌, IfOk, map};
-ghost use Rattle.oxt_enum_checks.specs.First.{first_blocks};
+ghost use Rattle.oxt_enum_checks.specs.First.{first_by};
+ghost use Rattle.oxt_enum_checks.specs.Places.{places_in};
 ghost use Rattle.oxt_tree.specs.View.{node_doc};
 
 use crate::places::Places;
@@ -11,7 +12,8 @@ use oxt_tree::tree::Node;
 use std::alloc::Global;
 
 /// The numbers of the blocks of enums and namespaces that emit code and before which no declaration
-/// of their name in their scope does, in the order of the text. `scoping` is the table of the program.
+/// of their name in their scope does, in the order of the text. `scoping` is the table of the program, and `places` are the
+/// declarations of its names.
 ///
 /// # Errors
 ///
@@ -20,12 +22,12 @@ pub fn first_blocks(
     alloc: Global,
     program: &Node,
     scoping: &Scoping,
+    places: &Places,
 ) -> Result<Vec<NodeId>, OutOfMemory>
     ensures { IfOk result (λ nodes. map (λ node. node.0) nodes.items
-        ≡ first_blocks scoping.now (node_doc program.now)) }
+        ≡ first_by (places_in places.now) scoping.now (node_doc program.now)) }
 {
-    let places = Places::of_tree(alloc, program)?;
-    let blocks = sought_blocks(alloc, program, scoping, &places, Sought::Any)?;
+    let blocks = sought_blocks(alloc, program, scoping, places, Sought::Any)?;
     nodes_of(alloc, blocks.as_slice())
 }
 

@@ -1,7 +1,7 @@
 //! What is wrong with declarations of one name of which one is a block of an enum or a namespace.
 ghost use Rattle.std.specs.Prelude.{◌≡◌, IfOk, option_map};
-ghost use Rattle.oxt_enum_checks.specs.Clash.{clash_by, first_clash, least_clash};
-ghost use Rattle.oxt_enum_checks.specs.LateBase.{late_base, late_by, least_late};
+ghost use Rattle.oxt_enum_checks.specs.Clash.{clash_by, least_clash};
+ghost use Rattle.oxt_enum_checks.specs.LateBase.{late_by, least_late};
 ghost use Rattle.oxt_enum_checks.specs.Places.{places_in};
 ghost use Rattle.oxt_tree.specs.View.{node_doc};
 
@@ -23,33 +23,12 @@ pub struct MergeFaults {
     pub clash: Option<NodeId>,
 }
 
-/// Those of the program, whose table of scopes is `scoping`.
+/// Those of the program, whose table of scopes is `scoping` and of whose names `places` are the declarations.
 ///
 /// # Errors
 ///
 /// Nothing but want of memory.
 pub fn merge_faults(
-    alloc: Global,
-    program: &Node,
-    scoping: &Scoping,
-) -> Result<MergeFaults, OutOfMemory>
-    ensures late_base { IfOk result (λ faults. option_map (λ node. node.0) faults.late_base
-        ≡ late_base scoping.now (node_doc program.now)) }
-    ensures clash { IfOk result (λ faults. option_map (λ node. node.0) faults.clash
-        ≡ first_clash scoping.now (node_doc program.now)) }
-{
-    if !has_blocks(scoping) {
-        return Ok(MergeFaults {
-            late_base: None,
-            clash: None,
-        });
-    }
-    let places = Places::of_tree(alloc, program)?;
-    faults_by(alloc, program, scoping, &places)
-}
-
-/// The same, where these are the declarations of the names of the program.
-fn faults_by(
     alloc: Global,
     program: &Node,
     scoping: &Scoping,
@@ -60,6 +39,12 @@ fn faults_by(
     ensures clash { IfOk result (λ faults. option_map (λ node. node.0) faults.clash
         ≡ clash_by (places_in places.now) scoping.now (node_doc program.now)) }
 {
+    if !has_blocks(scoping) {
+        return Ok(MergeFaults {
+            late_base: None,
+            clash: None,
+        });
+    }
     let blocks = sought_blocks(alloc, program, scoping, places, Sought::Block)?;
     faults_of(alloc, scoping, places, blocks.as_slice())
 }

@@ -1,11 +1,10 @@
 //! The first member, or bare name of a member, that stands in the way.
 ghost use Rattle.std.specs.Prelude.{◌≡◌, IfOk};
-ghost use Rattle.oxt_enum_checks.specs.Misnamed.{lesser, misnamed};
+ghost use Rattle.oxt_enum_checks.specs.Misnamed.{lesser, misnamed_beside};
 ghost use Rattle.oxt_scopes.specs.Stack.{number_at};
 ghost use Rattle.oxt_tree.specs.View.{node_doc};
 
 use crate::members::members_of;
-use crate::misused::first_misused;
 use crate::repeated::first_repeated;
 use oxt_names::ids::{NodeId, OutOfMemory};
 use oxt_scoping::scoping::Scoping;
@@ -13,8 +12,8 @@ use oxt_tree::tree::Node;
 use std::alloc::Global;
 
 /// The least number of a node, outside what is erased, that is a member with the name of its enum or of a member
-/// that stands earlier in the enum, or a bare name that means a member and is written or names an element of JSX. Under
-/// `legacy` the decorators of a field with `declare` are not erased.
+/// that stands earlier in the enum, or a bare name that means a member and is written or names an element of JSX, of which
+/// `misused` is the first. Under `legacy` the decorators of a field with `declare` are not erased.
 ///
 /// # Errors
 ///
@@ -24,12 +23,14 @@ pub fn first_misnamed(
     program: &Node,
     scoping: &Scoping,
     legacy: bool,
+    misused: Option<NodeId>,
 ) -> Result<Option<NodeId>, OutOfMemory>
-    ensures { IfOk result (λ found. number_at found ≡ misnamed legacy scoping.now (node_doc program.now)) }
+    ensures { IfOk result
+        (λ found. number_at found ≡ misnamed_beside legacy scoping.now (node_doc program.now) (number_at misused)) }
 {
     let members = members_of(alloc, program, scoping, legacy)?;
     let repeated = first_repeated(alloc, members.as_slice())?;
-    Ok(lesser(repeated, first_misused(program, scoping, legacy)))
+    Ok(lesser(repeated, misused))
 }
 
 /// The lesser of two numbers, or the one that there is.

@@ -1,7 +1,8 @@
 //! The first bare name of a member that stands where its value cannot.
 ghost use Rattle.std.specs.Prelude.{◌≡◌, ℕ, false, option_map};
-ghost use Rattle.oxt_enum_checks.specs.Misused.{HasNoMember, is_member, is_misused, is_misused_as, misused, misused_at, names_element, number_of, sought, value_use};
+ghost use Rattle.oxt_enum_checks.specs.Misused.{HasNoMember, HasNoWrittenMember, is_member, is_misused, is_misused_as, is_misused_use, misused, misused_at, names_element, number_of, sought, value_use};
 ghost use Rattle.oxt_scopes.specs.Stack.{number_at};
+ghost use Rattle.oxt_scoping.specs.Scoped.{live_at};
 ghost use Rattle.oxt_tree.specs.View.{node_doc};
 
 use bitflags::Flags;
@@ -9,7 +10,7 @@ use oxt_declares::dropped::{inside_dropped, is_dropped};
 use oxt_grammar::holds::Row;
 use oxt_grammar::kind::Kind;
 use oxt_names::flags::{ReferenceFlags, SymbolFlags};
-use oxt_names::ids::{NodeId, SymbolId};
+use oxt_names::ids::{NodeId, ReferenceId, SymbolId};
 use oxt_scoping::entry::Reference;
 use oxt_scoping::scoping::Scoping;
 use oxt_search::first::first_in;
@@ -103,6 +104,30 @@ fn is_misused_as(scoping: &Scoping, reference: Reference, is_element: bool) -> b
 {
     (is_element || reference.flags.contains(ReferenceFlags::Write))
         && is_member(scoping, reference.symbol)
+}
+
+/// Whether a name that means a member of an enum is written. Where none is, no bare name is misused but an element of JSX. So an
+/// answer that one is may be given freely.
+pub fn has_written_member(scoping: &Scoping) -> bool
+    ensures { result ≡ false → HasNoWrittenMember scoping.now }
+{
+    for number in 0..scoping.reference_count() {
+        if is_written_member(scoping, ReferenceId(number as u64)) {
+            return true;
+        }
+    }
+    false
+}
+
+/// Whether the reference is there, means a member of an enum, and writes.
+fn is_written_member(scoping: &Scoping, reference: ReferenceId) -> bool
+    ensures { result ≡ is_misused_use scoping.now false (live_at scoping.now.references reference.0) }
+{
+    if scoping.has_reference(reference) {
+        is_misused_as(scoping, *scoping.get_reference(reference), false)
+    } else {
+        false
+    }
 }
 
 /// How the node of that number is used, if it is a name that is used as a value.

@@ -73,6 +73,15 @@ impl Places {
         Ok(Places { table })
     }
 
+    /// No declarations.
+    pub fn none(alloc: Global) -> Places
+        ensures { (n : ℕ) → places_in result n ≡ None }
+    {
+        Places {
+            table: IndexMap::new(alloc),
+        }
+    }
+
     /// The declaration of the name of that number.
     pub fn place_of(&self, name: NodeId) -> Option<Place>
         ensures { result ≡ places_in self.now name.0 }

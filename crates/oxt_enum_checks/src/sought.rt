@@ -183,11 +183,7 @@ fn own_block(scoping: &Scoping, firsts: &[Option<u64>], node: &Node) -> Option<B
 fn is_block_kind(kind: Kind) -> bool
     ensures { result ≡ is_block_kind kind }
 {
-    match kind {
-        Kind::TSEnumDeclaration => true,
-        Kind::TSNamespaceDeclaration => true,
-        _ => false,
-    }
+    kind.is(Kind::TSEnumDeclaration) || kind.is(Kind::TSNamespaceDeclaration)
 }
 
 /// The block with that name, if `firsts` has the name.

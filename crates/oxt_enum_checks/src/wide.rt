@@ -1,10 +1,10 @@
 //! The first member whose constant would be larger than the largest.
 ghost use Rattle.std.specs.Prelude.{◌≡◌, ◌<◌, false, length, slice_get};
-ghost use Rattle.oxt_enum_checks.specs.Wide.{ends_with_largest, has_largest_at, is_bare, is_largest, is_largest_constant, member_at, sought, value_of, wide, wide_among, wide_at, wide_in};
+ghost use Rattle.oxt_enum_checks.specs.Wide.{HasNoLargest, ends_with_largest, has_largest, has_largest_at, is_bare, is_largest, is_largest_constant, member_at, sought, value_of, wide, wide_among, wide_at, wide_in};
 ghost use Rattle.oxt_enum_checks.specs.declared.wide.WideMember.{WideMember};
 ghost use Rattle.oxt_tree.specs.View.{docs_in, node_doc, part_doc};
 
-use crate::misused::{has_members, is_member};
+use crate::misused::is_member;
 use oxt_constant::integer::LARGEST;
 use oxt_declares::dropped::{inside_dropped, is_dropped};
 use oxt_grammar::field::Field;
@@ -32,7 +32,7 @@ pub struct WideMember {
 pub fn first_wide(program: &Node, scoping: &Scoping, legacy: bool) -> Option<WideMember>
     ensures { result ≡ wide legacy scoping.now (node_doc program.now) }
 {
-    if !has_members(scoping) {
+    if !has_largest_member(scoping) {
         return None;
     }
     first_in(&Wides { scoping, legacy }, program, None)
@@ -163,9 +163,34 @@ fn has_largest_at(scoping: &Scoping, member: NodeId) -> bool
     ensures { result ≡ has_largest_at scoping.now member.0 }
 {
     match scoping.symbol_of(member) {
-        Some(symbol) => is_member(scoping, Some(symbol)) && has_largest(scoping, symbol),
+        Some(symbol) => is_largest_member(scoping, symbol),
         None => false,
     }
+}
+
+/// Whether a member has the largest constant. Where none has it, no member stands behind such a one. So an answer that one has
+/// it may be given freely, and is where symbols have no more numbers.
+fn has_largest_member(scoping: &Scoping) -> bool
+    ensures { result ≡ false → HasNoLargest scoping.now }
+{
+    for number in 0..u64::MAX {
+        let symbol = SymbolId(number);
+        if !scoping.has_symbol(symbol) {
+            return false;
+        }
+        if is_largest_member(scoping, symbol) {
+            return true;
+        }
+    }
+    true
+}
+
+/// Whether the symbol is that of a member whose constant is the largest.
+fn is_largest_member(scoping: &Scoping, symbol: SymbolId) -> bool
+    requires { symbol.0 < length scoping.now.symbols }
+    ensures { result ≡ has_largest (slice_get scoping.now.symbols symbol.0) }
+{
+    is_member(scoping, Some(symbol)) && has_largest(scoping, symbol)
 }
 
 /// Whether the constant of the symbol is the largest.

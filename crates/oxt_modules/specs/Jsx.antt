@@ -10,6 +10,7 @@ use Rattle.oxt_search.specs.All.{all_in}
 use Rattle.oxt_search.specs.Sought.{Sought}
 use Rattle.oxt_tree.specs.declared.inside.Inside.{Inside}
 use Rattle.oxt_tree.specs.declared.inside.Inside.TheVariants as inside
+use Rattle.oxt_grammar.specs.Places.{same_kind}
 use Rattle.oxt_grammar.specs.declared.kind.Kind.{Kind}
 use Rattle.oxt_grammar.specs.declared.kind.Kind.TheVariants as kind
 use Rattle.oxt_tree.specs.Doc.{Doc, Docs, text}
@@ -17,9 +18,10 @@ use Rattle.oxt_declares.specs.Dropped.{inside_dropped_by, is_dropped_by}
 
 -- what a node of that kind is of JSX
 abbrev pub own_node : Kind → Option JsxNode
-own_node kind.JSXElement = Some jsx.Element
-own_node kind.JSXFragment = Some jsx.Fragment
-own_node k = None
+own_node k =
+    if same_kind k kind.JSXElement then Some jsx.Element
+    else if same_kind k kind.JSXFragment then Some jsx.Fragment
+    else None
 
 -- of what is erased nothing is looked at but decorators that are applied all the same
 abbrev pub live_inside : Bool → Unit {0} → Kind → Docs → Inside (Unit {0})

@@ -115,14 +115,17 @@ abbrev pub kept_aliases : Scoped → TypeScriptData → List Alias → List ℕ
 kept_aliases s o [] = []
 kept_aliases s o (a ∷ xs) = kept_if (is_alias_kept s o a) a.node.0 ++ kept_aliases s o xs
 
--- what is kept of a program, of which that is the table; the flag says whether decorators have their older meaning
-abbrev pub kept_by : Scoped → (ℕ → Bool) → Doc → TypeScriptData → Bool → List ℕ
-kept_by s zs d o legacy =
-    kept_in_statements s o (record { jsx = jsx_use legacy d; named = zs }) (elements (field_of (codes "body") d))
-    ++ kept_aliases s o (aliases d)
+-- what is kept of a program, of which that is the table and which uses names so beside its references
+abbrev pub kept_by : Scoped → Uses → Doc → TypeScriptData → List ℕ
+kept_by s u d o = kept_in_statements s o u (elements (field_of (codes "body") d)) ++ kept_aliases s o (aliases d)
 
--- What is kept of a program: specifiers, names that are exported by default, and declarations `import a = ..`. Names in the
--- right sides of those that nothing uses are no uses themselves. Symbols that metadata names are used, but too late to keep an
--- `import a = ..`.
+-- What is kept of a program that has this of JSX: specifiers, names that are exported by default, and declarations
+-- `import a = ..`. Names in the right sides of those that nothing uses are no uses themselves. Symbols that metadata names are
+-- used, but too late to keep an `import a = ..`.
+abbrev pub kept_beside : JsxUse → Scoped → (ℕ → Bool) → Doc → TypeScriptData → List ℕ
+kept_beside jsx s zs d o = kept_by (beside (marked s d o) s) (record { jsx = jsx; named = zs }) d o
+
+-- the same, where what it has of JSX is what stands outside erased code; the flag says whether decorators have their older
+-- meaning
 abbrev pub kept : Scoped → (ℕ → Bool) → Doc → TypeScriptData → Bool → List ℕ
-kept s zs d o legacy = kept_by (beside (marked s d o) s) zs d o legacy
+kept s zs d o legacy = kept_beside (jsx_use legacy d) s zs d o

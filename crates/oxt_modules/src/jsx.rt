@@ -100,10 +100,12 @@ fn live_inside(legacy: bool, node: &Node, state: ()) -> Inside<()>
 fn own_node(kind: Kind) -> Option<JsxNode>
     ensures { result ≡ own_node kind }
 {
-    match kind {
-        Kind::JSXElement => Some(JsxNode::Element),
-        Kind::JSXFragment => Some(JsxNode::Fragment),
-        _ => None,
+    if kind.is(Kind::JSXElement) {
+        Some(JsxNode::Element)
+    } else if kind.is(Kind::JSXFragment) {
+        Some(JsxNode::Fragment)
+    } else {
+        None
     }
 }
 

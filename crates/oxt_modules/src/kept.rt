@@ -1,7 +1,7 @@
 //! The specifiers, and the declarations `import a = ..`, that are kept.
 ghost use Rattle.std.specs.Prelude.{◌≡◌, ◌++◌, IfOk, OnOk, codes};
 ghost use Rattle.oxt_metadata.specs.Symbols.{is_in};
-ghost use Rattle.oxt_modules.specs.Kept.{exported_name, is_alias_kept, is_kept, is_local_kept, is_named_there, is_reference_kept, is_spelling_kept, is_text_kept, kept, kept_aliases, kept_by, kept_default, kept_if, kept_in_list, kept_in_statement, kept_in_statements, kept_specifier, place_of, uses_view};
+ghost use Rattle.oxt_modules.specs.Kept.{exported_name, is_alias_kept, is_kept, is_local_kept, is_named_there, is_reference_kept, is_spelling_kept, is_text_kept, kept_aliases, kept_beside, kept_by, kept_default, kept_if, kept_in_list, kept_in_statement, kept_in_statements, kept_specifier, place_of, uses_view};
 ghost use Rattle.oxt_modules.specs.Jsx.{is_jsx_text};
 ghost use Rattle.oxt_modules.specs.Symbols.{IsAnswered, table_of};
 ghost use Rattle.oxt_options.specs.Options.{typescript_view};
@@ -10,7 +10,7 @@ ghost use Rattle.oxt_tree.specs.Fields.{named};
 ghost use Rattle.oxt_tree.specs.View.{doc_or_nil, docs_in, node_doc, part_doc};
 
 use crate::alias::{Alias, aliases_of};
-use crate::jsx::{JsxUse, is_jsx_name, jsx_use};
+use crate::jsx::{JsxUse, is_jsx_name};
 use crate::marked::marked_names;
 use crate::names::{is_declared_again, is_name_kept, is_used};
 use crate::symbols::Symbols;
@@ -46,8 +46,8 @@ struct OtherUses<'a> {
 
 /// The numbers of the import and export specifiers that are kept, in the order of the text, with those of the names that
 /// `export default` exports and keeps, and behind them those of the declarations `import a = ..` that are kept. `scoping`
-/// is the table of the program, `named` has the symbols that metadata names as values, and `legacy` says whether decorators have
-/// TypeScript's older meaning. What metadata names comes too late to keep an `import a = ..`.
+/// is the table of the program, `named` has the symbols that metadata names as values, and `jsx` is what the program has of JSX.
+/// What metadata names comes too late to keep an `import a = ..`.
 ///
 /// # Errors
 ///
@@ -57,15 +57,15 @@ pub fn kept_nodes(
     program: &Node,
     scoping: &Scoping,
     named: &NamedSymbols,
+    jsx: JsxUse,
     options: &TypeScriptOptions,
-    legacy: bool,
 ) -> Result<NodeList, OutOfMemory>
     ensures { IfOk result (λ nodes. nodes
-        ≡ kept scoping.now (is_in named.now) (node_doc program.now) (typescript_view options.now) legacy) }
+        ≡ kept_beside jsx scoping.now (is_in named.now) (node_doc program.now) (typescript_view options.now)) }
 {
     let marked = marked_names(alloc, program, scoping, options)?;
     let symbols = Symbols::of(alloc, scoping, marked)?;
-    let nodes = kept_by(alloc, program, &symbols, named, options, legacy)?;
+    let nodes = kept_by(alloc, program, &symbols, OtherUses { jsx, named }, options)?;
     NodeList::of(alloc, nodes)
 }
 
@@ -74,18 +74,13 @@ fn kept_by(
     alloc: Global,
     program: &Node,
     symbols: &Symbols,
-    named: &NamedSymbols,
+    uses: OtherUses,
     options: &TypeScriptOptions,
-    legacy: bool,
 ) -> Result<Vec<NodeId>, OutOfMemory>
     requires { IsAnswered symbols.now }
     ensures { IfOk result (λ nodes. numbers_in nodes.items
-        ≡ kept_by (table_of symbols.now) (is_in named.now) (node_doc program.now) (typescript_view options.now) legacy) }
+        ≡ kept_by (table_of symbols.now) (uses_view uses.entry) (node_doc program.now) (typescript_view options.now)) }
 {
-    let uses = OtherUses {
-        jsx: jsx_use(alloc, program, legacy)?,
-        named,
-    };
     let aliases = aliases_of(alloc, program)?;
     let mut out = Vec::new(alloc);
     push_statements(symbols, options, uses, program.list(Field::Body), &mut out)?;

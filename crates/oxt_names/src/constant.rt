@@ -7,7 +7,7 @@ use crate::name::Name;
 use std::alloc::Global;
 
 /// The constant of an enum member.
-#[derive(Drop, PartialEq, Eq)]
+#[derive(Drop)]
 pub enum ConstantValue {
     /// A whole number.
     Number(i64),

@@ -9,5 +9,6 @@ pub mod flags;
 pub mod ids;
 pub mod lines;
 pub mod name;
+mod short;
 pub mod table;
 pub mod uid;

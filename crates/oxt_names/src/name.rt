@@ -1,14 +1,24 @@
-//! Texts that several nodes share.
+//! Texts of nodes.
 ghost use Rattle.std.specs.Prelude.{◌≡◌, IfOk, string_bytes};
 
 use crate::ids::OutOfMemory;
+use crate::short::ShortText;
 use std::alloc::Global;
 use std::rc::RcStr;
 
-/// A shared text.
-#[derive(Debug, Drop, PartialEq, Eq)]
+/// A text. A short one lies in the name itself and is copied, so that it takes no memory of its own; a longer one is shared.
+#[derive(Debug, Drop)]
 pub struct Name {
-    text: RcStr,
+    text: Text,
+}
+
+/// Where the text of a name lies.
+#[derive(Debug, Drop)]
+enum Text {
+    /// In the name.
+    Short(ShortText),
+    /// In memory that names share.
+    Long(RcStr),
 }
 
 impl Name {
@@ -18,33 +28,42 @@ impl Name {
     pub fn new(alloc: Global, text: &str) -> Result<Name, OutOfMemory>
         ensures { IfOk result (λ name. name_bytes name ≡ text.now) }
     {
-        Ok(Name {
-            text: RcStr::from_str(alloc, text)?,
-        })
+        let text = match ShortText::of(text) {
+            Some(short) => Text::Short(short),
+            None => Text::Long(RcStr::from_str(alloc, text)?),
+        };
+        Ok(Name { text })
     }
 
     /// A name with this text, whose memory it takes over.
     pub fn from_string(text: String) -> Result<Name, OutOfMemory>
         ensures { IfOk result (λ name. name_bytes name ≡ string_bytes text) }
     {
-        Ok(Name {
-            text: RcStr::from_string(text)?,
-        })
+        let text = match ShortText::of(text.as_str()) {
+            Some(short) => Text::Short(short),
+            None => Text::Long(RcStr::from_string(text)?),
+        };
+        Ok(Name { text })
     }
 
     /// The text.
     pub fn as_str(&self) -> &str
         ensures { result.now ≡ name_bytes self.now }
     {
-        self.text.as_str()
+        match &self.text {
+            Text::Short(short) => short.as_str(),
+            Text::Long(text) => text.as_str(),
+        }
     }
 
-    /// Another name with the same text, which is not copied.
+    /// Another name with the same text.
     pub fn share(&self) -> Result<Name, OutOfMemory>
         ensures { IfOk result (λ name. name_bytes name ≡ name_bytes self.now) }
     {
-        Ok(Name {
-            text: self.text.clone()?,
-        })
+        let text = match &self.text {
+            Text::Short(short) => Text::Short(*short),
+            Text::Long(text) => Text::Long(text.clone()?),
+        };
+        Ok(Name { text })
     }
 }

@@ -40,6 +40,16 @@ impl UidNames {
         }
     }
 
+    /// The same names once more.
+    pub fn copy(&self) -> Result<UidNames, OutOfMemory>
+        ensures { IfOk result (λ copy. copy ≡ self.now) }
+    {
+        Ok(UidNames {
+            alloc: self.alloc,
+            table: self.table.clone()?,
+        })
+    }
+
     /// Whether the name is taken.
     pub fn has(&self, name: &str) -> bool
         ensures { result ≡ is_among name.now self.now }

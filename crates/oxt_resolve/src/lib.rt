@@ -1,4 +1,4 @@
-//! The table of a tree's scopes, symbols and references.
+//! The table of a tree's scopes, symbols and references, the groups that its names mean and declare, and the names that it takes.
 #![tactic(auto)]
 
 mod enums;

@@ -1,8 +1,8 @@
 //! The table of a tree.
 ghost use Rattle.std.specs.Prelude.{◌≡◌, IfOk, OnOk};
-ghost use Rattle.oxt_resolve.specs.Groups.{groups_of};
+ghost use Rattle.oxt_resolve.specs.Groups.{groups_by, groups_of};
 ghost use Rattle.oxt_resolve.specs.Marks.{flags_in};
-ghost use Rattle.oxt_resolve.specs.Resolved.{all_declared, all_enums, all_opened, all_used, declared_by, resolved, table_by, values_by};
+ghost use Rattle.oxt_resolve.specs.Resolved.{all_declared, all_enums, all_opened, all_used, declared_by, resolved, table_by, taken_in, values_by};
 ghost use Rattle.oxt_scopes.specs.OwnedViews.{owned_views};
 ghost use Rattle.oxt_scopes.specs.Views.{opened_views};
 ghost use Rattle.oxt_tree.specs.View.{node_doc};
@@ -35,32 +35,76 @@ use std::alloc::Global;
 pub fn resolve(alloc: Global, program: &Node, legacy: bool) -> Result<Scoping, OutOfMemory>
     ensures { IfOk result (λ table. table ≡ resolved legacy (node_doc program.now)) }
 {
-    let Resolution { scoping, groups } = resolve_names(alloc, program, legacy)?;
-    drop(groups);
+    let Resolution { scoping, names } = resolve_names(alloc, program, legacy)?;
+    drop(names);
     Ok(scoping)
 }
 
-/// The table of a tree, and the groups of its names.
+/// The names of a tree.
 #[derive(Drop)]
-pub struct Resolution {
-    pub scoping: Scoping,
+pub struct TreeNames {
+    /// The groups that they mean and declare.
     pub groups: NameGroups,
+    /// Those that are taken.
+    pub taken: UidNames,
 }
 
-/// The same, and the groups that its names mean and declare.
+impl TreeNames {
+    /// Those of the tree, whose scopes and used names these are.
+    fn of(alloc: Global, program: &Node, walked: &Walked<'_>) -> Result<TreeNames, OutOfMemory>
+        ensures groups { IfOk result
+            (λ made. made.groups ≡ groups_by (opened_views walked.now.scopes.items) (owned_views walked.now.names.items)) }
+        ensures taken { IfOk result (λ made. made.taken ≡ taken_in (node_doc program.now)) }
+    {
+        let groups = groups_by(alloc, walked.scopes.as_slice(), walked.names.as_slice())?;
+        let taken = taken_names(alloc, program)?;
+        Ok(TreeNames { groups, taken })
+    }
+}
+
+/// The table of a tree, and its names.
+#[derive(Drop)]
+pub struct Resolution {
+    /// The table.
+    pub scoping: Scoping,
+    /// The names.
+    pub names: TreeNames,
+}
+
+/// The table of the tree, as `resolve` makes it, with the groups that its names mean and declare and the names that it takes.
 ///
 /// # Errors
 ///
 /// Fails only where memory runs out.
 pub fn resolve_names(alloc: Global, program: &Node, legacy: bool) -> Result<Resolution, OutOfMemory>
-    ensures table { IfOk result (λ names. names.scoping ≡ resolved legacy (node_doc program.now)) }
-    ensures groups { IfOk result (λ names. names.groups ≡ groups_of legacy (node_doc program.now)) }
+    ensures table { IfOk result (λ made. made.scoping ≡ resolved legacy (node_doc program.now)) }
+    ensures groups { IfOk result (λ made. made.names.groups ≡ groups_of legacy (node_doc program.now)) }
+    ensures taken { IfOk result (λ made. made.names.taken ≡ taken_in (node_doc program.now)) }
 {
-    let Walked { scopes, names } = walked_of(alloc, program, legacy)?;
-    let groups = groups_by(alloc, scopes.as_slice(), names.as_slice())?;
-    let taken = taken_names(alloc, program)?;
-    let scoping = table_of(alloc, program, taken, scopes.as_slice(), names.as_slice())?;
-    Ok(Resolution { scoping, groups })
+    let walked = walked_of(alloc, program, legacy)?;
+    let names = TreeNames::of(alloc, program, &walked)?;
+    let scoping = table_beside(alloc, program, &walked, &names.taken)?;
+    Ok(Resolution { scoping, names })
+}
+
+/// The table of the tree, which takes the names that are also listed there, and whose scopes and used names these are.
+fn table_beside(
+    alloc: Global,
+    program: &Node,
+    walked: &Walked<'_>,
+    listed: &UidNames,
+) -> Result<Scoping, OutOfMemory>
+    ensures { IfOk result
+        (λ table. table ≡ table_by listed.now (owned_views walked.now.names.items) (opened_views walked.now.scopes.items) (node_doc program.now)) }
+{
+    let taken = listed.copy()?;
+    table_of(
+        alloc,
+        program,
+        taken,
+        walked.scopes.as_slice(),
+        walked.names.as_slice(),
+    )
 }
 
 /// The table of the tree, which takes these names, has these scopes and uses these names.

@@ -1,12 +1,11 @@
 //! A run over a source and sinks that never fail, and the settings of an output beside those of its source.
 
-use oxt_facts::owners::NameGroups;
 use oxt_lines::lines::Lines;
 use oxt_lines::stopped::Stopped;
 use oxt_lines::table::Table;
 use oxt_options::options::TransformOptions;
 use oxt_options::plan::Plan;
-use oxt_resolve::resolve::{Resolution, resolve_names};
+use oxt_resolve::resolve::{Resolution, TreeNames, resolve_names};
 use oxt_scoping::scoping::Scoping;
 use oxt_transform::certificate::find_mismatch;
 use oxt_transform::expected::Expected;
@@ -65,22 +64,22 @@ fn print_settings(
 
 /// What is expected of the output of a source, of which no specifier is kept.
 fn expected_of(alloc: Global, root: &Node) -> Result<Expected, Stopped> {
-    let Resolution { scoping, groups } = resolve_names(alloc, root, false)?;
-    let expected = expected_by(alloc, root, &scoping, groups);
+    let Resolution { scoping, names } = resolve_names(alloc, root, false)?;
+    let expected = expected_by(alloc, root, &scoping, names);
     drop(scoping);
     expected
 }
 
-/// The same, where that is the source's table of names, and these are their groups.
+/// The same, where that is the source's table, and these are its names.
 fn expected_by(
     alloc: Global,
     root: &Node,
     scoping: &Scoping,
-    groups: NameGroups,
+    names: TreeNames,
 ) -> Result<Expected, Stopped> {
     let options = TransformOptions::defaults(alloc)?;
     let plan = Plan::empty(alloc);
-    let expected = Expected::of(alloc, root, scoping, groups, &plan, &options);
+    let expected = Expected::of(alloc, root, scoping, names, &plan, &options);
     drop(plan);
     Ok(expected?)
 }

@@ -156,6 +156,13 @@ impl Scoping {
         is_live(self.references.as_slice(), reference)
     }
 
+    /// How many references were made, with those that were deleted since: a reference has a lesser number.
+    pub fn reference_count(&self) -> usize
+        ensures { result ≡ length self.now.references }
+    {
+        self.references.len()
+    }
+
     /// The symbol that the name is bound to in the scope.
     pub fn get_binding(&self, scope: ScopeId, name: &str) -> Option<SymbolId>
         requires { scope.0 < length self.now.scopes }

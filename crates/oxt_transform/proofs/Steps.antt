@@ -22,7 +22,7 @@ use Rattle.oxt_tree.specs.Syntax.{is_definition_file}
 use Rattle.oxt_options.specs.Options.{TransformData}
 use Rattle.oxt_options.specs.Facts.{Answers, Facts, is_in}
 use Rattle.oxt_told.specs.Source.{Asked, asked_of}
-use Rattle.oxt_facts.specs.Owners.{Owners}
+use Rattle.oxt_resolve.specs.declared.resolve.TreeNames.{TreeNames}
 use Rattle.oxt_resolve.specs.Groups.{groups_of}
 use Rattle.oxt_resolve.specs.Resolved.{resolved}
 use Rattle.oxt_scoping.specs.Scoped.{Scoped}
@@ -32,7 +32,7 @@ use Rattle.oxt_check.proofs.Kept.{plain_beside_nothing}
 use Rattle.oxt_check.specs.Targets.{is_listed, targets}
 use Rattle.oxt_transform.proofs.Spans.{exports_stand}
 use Rattle.oxt_transform.proofs.Told.{no_targets}
-use Rattle.oxt_transform.specs.Expected.{ExpectedData, asked_by, expected_by, expected_of, fault_of, is_due, keeps, listed_in}
+use Rattle.oxt_transform.specs.Expected.{ExpectedData, asked_by, expected_by, expected_of, fault_of, is_due, keeps, listed_in, names_of}
 use Rattle.oxt_transform.specs.Exports.{body}
 use Rattle.oxt_transform.specs.Faults.{refusal_in, IsReasonFor}
 use Rattle.oxt_transform.specs.Lowering.{IsTextOfOne, Lowers, Passes, ReturnsPlain, tells_of_wrapper}
@@ -153,23 +153,24 @@ asked_same known listed a =
 
 module _ (o : TransformData) (source : Doc) (known : Facts) (s : Scoped) (table : s ≡ resolved o.decorator.legacy source) (a : Answers known (facts_of s source o)) where
   -- what is expected of the output, by the tables that the program made
-  expected_same : (g : Owners) → g ≡ groups_of o.decorator.legacy source → expected_by s g (asked_of known) o source ≡ expected_of o source
-  expected_same g groups =
-      ap (λ (p : Asked). expected_by s g p o source) (asked_same known (facts_of s source o) a)
-      ∙ ap (λ t. expected_by t g (asked_by t o source) o source) table
-      ∙ ap (λ h. expected_by (resolved o.decorator.legacy source) h (asked_by (resolved o.decorator.legacy source) o source) o source) groups
+  expected_same : (ns : TreeNames) → ns.groups ≡ groups_of o.decorator.legacy source → ns.taken ≡ names_of source → expected_by s ns.groups ns.taken (asked_of known) o source ≡ expected_of o source
+  expected_same ns groups taken =
+      ap (λ (p : Asked). expected_by s ns.groups ns.taken p o source) (asked_same known (facts_of s source o) a)
+      ∙ ap (λ t. expected_by t ns.groups ns.taken (asked_by t o source) o source) table
+      ∙ ap (λ h. expected_by (resolved o.decorator.legacy source) h ns.taken (asked_by (resolved o.decorator.legacy source) o source) o source) groups
+      ∙ ap (λ h. expected_by (resolved o.decorator.legacy source) (groups_of o.decorator.legacy source) h (asked_by (resolved o.decorator.legacy source) o source) o source) taken
 
   -- what the writer of the source is told, so
   pub told_same : diagnostics (is_in known.kept) o source ≡ diagnostics (keeps o source) o source
   told_same = ap (λ (p : Asked). diagnostics p.kept o source) (asked_same known (facts_of s source o) a ∙ ap (λ t. asked_by t o source) table)
 
-module _ (o : TransformData) (source output : Doc) (known : Facts) (s : Scoped) (g : Owners) (table : s ≡ resolved o.decorator.legacy source) (groups : g ≡ groups_of o.decorator.legacy source) (a : Answers known (facts_of s source o))
+module _ (o : TransformData) (source output : Doc) (known : Facts) (s : Scoped) (ns : TreeNames) (table : s ≡ resolved o.decorator.legacy source) (groups : ns.groups ≡ groups_of o.decorator.legacy source) (taken : ns.taken ≡ names_of source) (a : Answers known (facts_of s source o))
     (faultless : fault_of o source ≡ None) where
   abbrev x : ExpectedData
-  x = expected_by s g (asked_of known) o source
+  x = expected_by s ns.groups ns.taken (asked_of known) o source
 
   judged_source : (d : Option Difference) → Judges x output d → Judges (expected_of o source) output d
-  judged_source d judged = subst (λ y. Judges y output d) (expected_same o source known s table a g groups) judged
+  judged_source d judged = subst (λ y. Judges y output d) (expected_same o source known s table a ns groups taken) judged
 
   pub passed : Judges x output None → Passes o source output
   passed judged = record { faultless = faultless; judged = judged_source None judged }

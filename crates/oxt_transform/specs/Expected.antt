@@ -97,20 +97,20 @@ expected_view x =
     }
 
 -- What is expected under the options of the output of a source of whose nodes that is asked and of which that is the
--- table, with these groups of its names, beside wrappers of these numbers.
-abbrev pub expected_beside : List ℕ → Scoped → Owners → Asked → TransformData → Doc → ExpectedData
-expected_beside staying s g p o source =
+-- table, with these groups of its names and these taken names, beside wrappers of these numbers.
+abbrev pub expected_beside : List ℕ → Scoped → Owners → List (List ℕ) → Asked → TransformData → Doc → ExpectedData
+expected_beside staying s g taken p o source =
     record {
       word = source_word_by s g p o source;
-      names = names_of source;
+      names = taken;
       settings = settings_by (due_by p o source) o.decorator.legacy source;
       staying = staying;
     }
 
 -- the same beside those that may stay
-abbrev pub expected_by : Scoped → Owners → Asked → TransformData → Doc → ExpectedData
-expected_by s g p o source = expected_beside (targets o.decorator.legacy source) s g p o source
+abbrev pub expected_by : Scoped → Owners → List (List ℕ) → Asked → TransformData → Doc → ExpectedData
+expected_by s g taken p o source = expected_beside (targets o.decorator.legacy source) s g taken p o source
 
 -- what is expected of the output of a source under the options
 abbrev pub expected_of : TransformData → Doc → ExpectedData
-expected_of o source = expected_by (resolved o.decorator.legacy source) (groups_of o.decorator.legacy source) (asked o source) o source
+expected_of o source = expected_by (resolved o.decorator.legacy source) (groups_of o.decorator.legacy source) (names_of source) (asked o source) o source

@@ -16,7 +16,7 @@ use oxt_names::ids::OutOfMemory;
 use oxt_names::uid::UidNames;
 use oxt_options::TransformOptions;
 use oxt_options::plan::Plan;
-use oxt_resolve::names::taken_names;
+use oxt_resolve::resolve::TreeNames;
 use oxt_scoping::scoping::Scoping;
 use oxt_told::told::told_of_source;
 use oxt_tree::tree::Node;
@@ -37,7 +37,7 @@ pub struct Expected {
 }
 
 impl Expected {
-    /// What the output of that source is to be, by its table of scopes, the groups of its names, its plan and the options.
+    /// What the output of that source is to be, by its table of scopes, its names, its plan and the options.
     ///
     /// # Errors
     ///
@@ -46,15 +46,15 @@ impl Expected {
         alloc: Global,
         source: &Node,
         scoping: &Scoping,
-        groups: NameGroups,
+        names: TreeNames,
         plan: &Plan,
         options: &TransformOptions,
     ) -> Result<Expected, OutOfMemory>
         ensures { IfOk result (λ expected. expected_view expected
-            ≡ expected_by scoping.now groups (asked_of plan.now) (transform_view options.now) (node_doc source.now)) }
+            ≡ expected_by scoping.now names.groups names.taken (asked_of plan.now) (transform_view options.now) (node_doc source.now)) }
     {
         let targets = WrappedTargets::of(alloc, source, options.decorator.legacy)?;
-        Expected::beside(alloc, source, scoping, groups, plan, options, targets)
+        Expected::beside(alloc, source, scoping, names, plan, options, targets)
     }
 
     /// The same, where these wrappers may stay in it.
@@ -66,23 +66,23 @@ impl Expected {
         alloc: Global,
         source: &Node,
         scoping: &Scoping,
-        groups: NameGroups,
+        names: TreeNames,
         plan: &Plan,
         options: &TransformOptions,
         staying: WrappedTargets,
     ) -> Result<Expected, OutOfMemory>
         ensures { IfOk result (λ expected. expected_view expected
-            ≡ expected_beside staying scoping.now groups (asked_of plan.now) (transform_view options.now) (node_doc source.now)) }
+            ≡ expected_beside staying scoping.now names.groups names.taken (asked_of plan.now) (transform_view options.now) (node_doc source.now)) }
     {
+        let TreeNames { groups, taken } = names;
         let word = source_word(alloc, source, scoping, groups, plan, options)?;
         let due = is_due(source, plan, options);
         let settings = Settings::of(alloc, source, due, options.decorator.legacy)?;
-        let names = taken_names(alloc, source)?;
         Ok(Expected {
             word,
             settings,
             targets: staying,
-            names,
+            names: taken,
         })
     }
 }

@@ -204,6 +204,9 @@ fn refuse<E: Sink>(alloc: Global, fault: Fault, err: &mut E) -> Outcome
     };
     match write_all(err, line.as_bytes()) {
         Ok(()) => Outcome::Refused(fault),
-        Err(_) => Outcome::WriteFault,
+        Err(_) => {
+            drop(fault);
+            Outcome::WriteFault
+        }
     }
 }

@@ -9,7 +9,7 @@ ghost use Rattle.oxt_options.specs.Facts.{Answers};
 ghost use Rattle.oxt_resolve.specs.Groups.{groups_of};
 ghost use Rattle.oxt_resolve.specs.Resolved.{resolved};
 ghost use Rattle.oxt_told.specs.Source.{asked_of};
-ghost use Rattle.oxt_transform.specs.Expected.{expected_beside, expected_view, fault_of, keeps};
+ghost use Rattle.oxt_transform.specs.Expected.{expected_beside, expected_view, fault_of, keeps, names_of};
 ghost use Rattle.oxt_transform.specs.Faults.{refusal_in, IsReasonFor, text_in, told_in};
 ghost use Rattle.oxt_transform.specs.Lowering.{IsTextOfOne, Lowers, Passes, ReturnsPlain};
 ghost use Rattle.oxt_transform.specs.Outcomes.{answer_of};
@@ -26,14 +26,13 @@ use crate::staying::staying_wrappers;
 use oxt_check::check;
 use oxt_check::diagnose::diagnostics_of;
 use oxt_check::targets::WrappedTargets;
-use oxt_facts::owners::NameGroups;
 use oxt_json::laws::text_tells_trees;
 use oxt_json::{read_tree, write_tree};
 use oxt_names::diagnostic::OxcDiagnostic;
 use oxt_names::ids::OutOfMemory;
 use oxt_names::lines::append_lines;
 pub use oxt_options::TransformOptions;
-use oxt_resolve::resolve::{Resolution, resolve_names};
+use oxt_resolve::resolve::{Resolution, TreeNames, resolve_names};
 use oxt_tree::tree::Program;
 use std::alloc::Global;
 
@@ -111,8 +110,8 @@ pub fn transform_text(
 struct Checked {
     /// What the passes know of it.
     tables: Tables,
-    /// The groups of its names.
-    groups: NameGroups,
+    /// Its names.
+    names: TreeNames,
 }
 
 /// Lowers the program: its names are resolved, it is checked, what its writer is told is read, and it is rewritten and
@@ -173,20 +172,20 @@ fn rewrite_and_test(
     staying: WrappedTargets,
 ) -> Result<(), Fault>
     ensures judged { OnOk result (Judges
-        (expected_beside staying checked.tables.scoping checked.groups (asked_of checked.tables.plan) (transform_view options.now) (node_doc program.old.root))
+        (expected_beside staying checked.tables.scoping checked.names.groups checked.names.taken (asked_of checked.tables.plan) (transform_view options.now) (node_doc program.old.root))
         (node_doc program.new.root) None) }
     ensures comes_back { OnOk result (ComesBack (transform_view options.now)
         (node_doc program.old.root) (node_doc program.new.root)) }
     ensures failed { IfErr result (λ f. IsFailure (refusal_in f)
-        (expected_beside staying checked.tables.scoping checked.groups (asked_of checked.tables.plan) (transform_view options.now) (node_doc program.old.root))
+        (expected_beside staying checked.tables.scoping checked.names.groups checked.names.taken (asked_of checked.tables.plan) (transform_view options.now) (node_doc program.old.root))
         (node_doc program.new.root)) }
 {
-    let Checked { tables, groups } = checked;
+    let Checked { tables, names } = checked;
     let expected = Expected::beside(
         alloc,
         &program.root,
         &tables.scoping,
-        groups,
+        names,
         &tables.plan,
         options,
         staying,
@@ -239,7 +238,8 @@ fn resolve_and_check(
     options: &TransformOptions,
 ) -> Result<Checked, Fault>
     ensures table { IfOk result (λ c. c.tables.scoping ≡ resolved options.now.decorator.legacy (node_doc program.now.root)) }
-    ensures groups { IfOk result (λ c. c.groups ≡ groups_of options.now.decorator.legacy (node_doc program.now.root)) }
+    ensures groups { IfOk result (λ c. c.names.groups ≡ groups_of options.now.decorator.legacy (node_doc program.now.root)) }
+    ensures taken { IfOk result (λ c. c.names.taken ≡ names_of (node_doc program.now.root)) }
     ensures plan { IfOk result (λ c. Answers c.tables.plan
         (facts_of c.tables.scoping (node_doc program.now.root) (transform_view options.now))) }
     ensures accepted { OnOk result (fault_of (transform_view options.now) (node_doc program.now.root) ≡ None) }
@@ -247,7 +247,7 @@ fn resolve_and_check(
         (resolved options.now.decorator.legacy (node_doc program.now.root)) (node_doc program.now.root) (transform_view options.now)) }
 {
     match resolve_names(alloc, &program.root, options.decorator.legacy) {
-        Ok(names) => check_resolved(alloc, program, names, options),
+        Ok(resolution) => check_resolved(alloc, program, resolution, options),
         Err(_) => Err(Fault::OutOfMemory),
     }
 }
@@ -260,27 +260,27 @@ fn resolve_and_check(
 fn check_resolved(
     alloc: Global,
     program: &Program,
-    names: Resolution,
+    resolution: Resolution,
     options: &TransformOptions,
 ) -> Result<Checked, Fault>
-    ensures table { IfOk result (λ c. c.tables.scoping ≡ names.scoping) }
-    ensures groups { IfOk result (λ c. c.groups ≡ names.groups) }
+    ensures table { IfOk result (λ c. c.tables.scoping ≡ resolution.scoping) }
+    ensures names { IfOk result (λ c. c.names ≡ resolution.names) }
     ensures plan { IfOk result (λ c. Answers c.tables.plan
         (facts_of c.tables.scoping (node_doc program.now.root) (transform_view options.now))) }
     ensures accepted { OnOk result
-        (first_fault names.scoping (node_doc program.now.root) (transform_view options.now) ≡ None) }
+        (first_fault resolution.scoping (node_doc program.now.root) (transform_view options.now) ≡ None) }
     ensures refused { IfErr result
-        (λ f. IsFaultOf (refusal_in f) names.scoping (node_doc program.now.root) (transform_view options.now)) }
+        (λ f. IsFaultOf (refusal_in f) resolution.scoping (node_doc program.now.root) (transform_view options.now)) }
 {
-    let Resolution { scoping, groups } = names;
+    let Resolution { scoping, names } = resolution;
     match check(alloc, program, &scoping, options) {
         Ok(plan) => {
             let tables = Tables { scoping, plan };
-            Ok(Checked { tables, groups })
+            Ok(Checked { tables, names })
         }
         Err(fault) => {
             drop(scoping);
-            drop(groups);
+            drop(names);
             Err(fault)
         }
     }

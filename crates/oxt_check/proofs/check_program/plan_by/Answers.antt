@@ -13,7 +13,7 @@ returns c =
     (listed_same (numbers_in c.args.nodes.items) (numbers_in c.in_ok-lists.field-0.items) (numbers_in c.in_ok-lists-3.field-0.items)
     (constants_in c.in_ok-lists-2.field-0.items) (numbers_in c.in_ok-lists-6.field-0.items) (pairs_in c.empty-lists.result.aliases.items)
     (types_in c.in_ok-lists-4.field-0.items) (pairs_in c.in_ok-lists-5.field-0.items)
-    c.named.result.now c.args.metadata.now c.args.kept.now c.args.scoping.now (node_doc c.args.program.now) (transform_view c.args.options.now)
+    c.named.result.now c.args.metadata.now c.args.kept.now c.args.scoping.now (node_doc c.args.survey.now.program.now) (transform_view c.args.options.now)
     c.requires c.in_ok-lists.ensures c.in_ok-lists-3.ensures c.named.ensures c.in_ok-lists-2.ensures c.in_ok-lists-6.ensures
     (ap (λ (f : Facts). f.aliases) c.empty-lists.ensures) c.in_ok-lists-4.ensures c.in_ok-lists-5.ensures)
     c.new.ensures

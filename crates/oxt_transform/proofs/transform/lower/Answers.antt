@@ -15,8 +15,8 @@ returns-in-Ok-rewrite_and_test-clause-passes c =
     let source = node_doc c.args.program.now.root in
     let output = node_doc c.rewrite_and_test.new.program.root in
     let staying = c.in-Ok-staying_wrappers.ensures (is_in c.in-Ok.checked.tables.plan.kept) (c.as_slice.ensures.value ∙ c.in-Ok-diagnostics_of.ensures) in
-    passed (transform_view c.args.options.now) source output c.in-Ok.checked.tables.plan c.in-Ok.checked.tables.scoping c.in-Ok.checked.groups c.in-Ok.ensures.table c.in-Ok.ensures.groups c.in-Ok.ensures.plan c.in-Ok.ensures.accepted
-    (subst (λ ns. Judges (expected_beside ns c.in-Ok.checked.tables.scoping c.in-Ok.checked.groups (asked_of c.in-Ok.checked.tables.plan) (transform_view c.args.options.now) source) output None) staying c.in-Ok-rewrite_and_test.ensures.judged)
+    passed (transform_view c.args.options.now) source output c.in-Ok.checked.tables.plan c.in-Ok.checked.tables.scoping c.in-Ok.checked.names c.in-Ok.ensures.table c.in-Ok.ensures.groups c.in-Ok.ensures.taken c.in-Ok.ensures.plan c.in-Ok.ensures.accepted
+    (subst (λ ns. Judges (expected_beside ns c.in-Ok.checked.tables.scoping c.in-Ok.checked.names.groups c.in-Ok.checked.names.taken (asked_of c.in-Ok.checked.tables.plan) (transform_view c.args.options.now) source) output None) staying c.in-Ok-rewrite_and_test.ensures.judged)
 
 pub returns-in-Ok-rewrite_and_test-clause-told : goal.returns-in-Ok-rewrite_and_test-clause-told
 returns-in-Ok-rewrite_and_test-clause-told c =
@@ -28,9 +28,9 @@ returns-in-Err-rewrite_and_test-clause-refused c =
     let source = node_doc c.args.program.now.root in
     let output = node_doc c.rewrite_and_test.new.program.root in
     let staying = c.in-Ok-staying_wrappers.ensures (is_in c.in-Ok.checked.tables.plan.kept) (c.as_slice.ensures.value ∙ c.in-Ok-diagnostics_of.ensures) in
-    failed (transform_view c.args.options.now) source output c.in-Ok.checked.tables.plan c.in-Ok.checked.tables.scoping c.in-Ok.checked.groups
-    c.in-Ok.ensures.table c.in-Ok.ensures.groups c.in-Ok.ensures.plan c.in-Ok.ensures.accepted (refusal_in c.in-Err-rewrite_and_test.fault)
-    (subst (λ ns. IsFailure (refusal_in c.in-Err-rewrite_and_test.fault) (expected_beside ns c.in-Ok.checked.tables.scoping c.in-Ok.checked.groups (asked_of c.in-Ok.checked.tables.plan) (transform_view c.args.options.now) source) output) staying c.in-Err-rewrite_and_test.ensures.failed)
+    failed (transform_view c.args.options.now) source output c.in-Ok.checked.tables.plan c.in-Ok.checked.tables.scoping c.in-Ok.checked.names
+    c.in-Ok.ensures.table c.in-Ok.ensures.groups c.in-Ok.ensures.taken c.in-Ok.ensures.plan c.in-Ok.ensures.accepted (refusal_in c.in-Err-rewrite_and_test.fault)
+    (subst (λ ns. IsFailure (refusal_in c.in-Err-rewrite_and_test.fault) (expected_beside ns c.in-Ok.checked.tables.scoping c.in-Ok.checked.names.groups c.in-Ok.checked.names.taken (asked_of c.in-Ok.checked.tables.plan) (transform_view c.args.options.now) source) output) staying c.in-Err-rewrite_and_test.ensures.failed)
 
 pub returns-in-Err-clause-refused : goal.returns-in-Err-clause-refused
 returns-in-Err-clause-refused c = fault_hinders (refusal_in c.in-Err.fault) (transform_view c.args.options.now) (node_doc c.args.program.now.root) c.in-Err.ensures.refused

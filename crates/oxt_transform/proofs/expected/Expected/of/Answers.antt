@@ -8,5 +8,5 @@ use Rattle.oxt_transform.proofs.expected.Expected.of.Goals as goal
 
 pub returns : goal.returns
 returns c =
-    subst (λ ns. IfOk c.beside.result (λ expected. expected_view expected ≡ expected_beside ns c.args.scoping.now c.args.groups (asked_of c.args.plan.now) (transform_view c.args.options.now) (node_doc c.args.source.now)))
+    subst (λ ns. IfOk c.beside.result (λ expected. expected_view expected ≡ expected_beside ns c.args.scoping.now c.args.names.groups c.args.names.taken (asked_of c.args.plan.now) (transform_view c.args.options.now) (node_doc c.args.source.now)))
     c.in_ok-targets.ensures c.beside.ensures

@@ -1,0 +1,6 @@
+-- The bytes are a text.
+use Rattle.std.proofs.lemmas.Str.{IsUtf8-had}
+use Rattle.oxt_names.proofs.short.ShortText.as_str.Goals as goal
+
+pub from_utf8_unchecked-requires : goal.from_utf8_unchecked-requires
+from_utf8_unchecked-requires c = IsUtf8-had _ c.args.self.now.spelled
