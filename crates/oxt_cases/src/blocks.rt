@@ -1,6 +1,7 @@
 //! Blocks of enums and namespaces.
 
 use crate::pieces::{Piece, put};
+use oxt_enum_checks::blocks::blocks_of;
 use oxt_enum_checks::first::first_blocks;
 use oxt_enum_checks::merges::merge_faults;
 use oxt_enum_checks::places::Places;
@@ -29,10 +30,25 @@ fn put_first_by(
     scoping: &Scoping,
     lines: &mut String,
 ) -> Result<(), OutOfMemory> {
+    let first = first_of(alloc, program, scoping)?;
+    put_numbers(first.as_slice(), lines)
+}
+
+/// The blocks before which nothing of their name emits code.
+///
+/// # Errors
+///
+/// Fails only where memory runs out.
+pub fn first_of(
+    alloc: Global,
+    program: &Node,
+    scoping: &Scoping,
+) -> Result<Vec<NodeId>, OutOfMemory> {
+    let blocks = blocks_of(alloc, program)?;
     let places = Places::of_tree(alloc, program)?;
-    let blocks = first_blocks(alloc, program, scoping, &places);
+    let first = first_blocks(alloc, blocks.as_slice(), scoping, &places);
     drop(places);
-    put_numbers(blocks?.as_slice(), lines)
+    first
 }
 
 /// Puts the numbers, a line each.
@@ -67,8 +83,9 @@ fn put_clash_by(
     scoping: &Scoping,
     lines: &mut String,
 ) -> Result<(), OutOfMemory> {
+    let blocks = blocks_of(alloc, program)?;
     let places = Places::of_tree(alloc, program)?;
-    let faults = merge_faults(alloc, program, scoping, &places);
+    let faults = merge_faults(alloc, blocks.as_slice(), scoping, &places);
     drop(places);
     match faults?.clash {
         Some(number) => put_number(number.0, lines),

@@ -8,6 +8,7 @@ use oxt_enum_checks::wide::first_wide;
 use oxt_names::ids::{NodeId, OutOfMemory};
 use oxt_resolve::resolve::resolve;
 use oxt_scoping::scoping::Scoping;
+use oxt_sites::sites::EnumSites;
 use oxt_tree::tree::Node;
 use std::alloc::Global;
 
@@ -31,12 +32,25 @@ fn put_found(
     scoping: &Scoping,
     lines: &mut String,
 ) -> Result<(), OutOfMemory> {
-    let misused = first_misused(program, scoping, false);
-    let misnamed = first_misnamed(alloc, program, scoping, false, misused)?;
+    let sites = EnumSites::of(alloc, program, false)?;
+    let outcome = put_found_at(alloc, &sites, scoping, lines);
+    drop(sites);
+    outcome
+}
+
+/// The same, where these are the outermost enums of the program.
+fn put_found_at(
+    alloc: Global,
+    sites: &EnumSites,
+    scoping: &Scoping,
+    lines: &mut String,
+) -> Result<(), OutOfMemory> {
+    let misused = first_misused(sites.program, scoping, sites.legacy);
+    let misnamed = first_misnamed(alloc, sites, scoping, misused)?;
     put_node("misnamed", misnamed, lines)?;
-    let shadowed = first_shadowed(alloc, program, scoping, false)?;
+    let shadowed = first_shadowed(alloc, sites, scoping)?;
     put_shadowed(shadowed, lines)?;
-    let wide = first_wide(program, scoping, false);
+    let wide = first_wide(sites.program, scoping, sites.legacy);
     put_node("wide", wide.map(|member| member.node), lines)
 }
 

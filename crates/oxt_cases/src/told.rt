@@ -1,11 +1,10 @@
 //! What is told of the nodes of a program.
+use crate::blocks::first_of;
 use crate::classes::{put_gains, put_moves};
 use crate::constants::put_value;
 use crate::decorated::{put_accessor, put_applied, put_called, put_decorated, put_default};
 use crate::namespaces::{put_export, put_namespace, put_quasi, put_stored};
 use crate::pieces::{Piece, put};
-use oxt_enum_checks::first::first_blocks;
-use oxt_enum_checks::places::Places;
 use oxt_facts::told::{MemberValue, Told, ToldBlock, ToldMember, ToldNodes};
 use oxt_fields::aliases::alias_uses;
 use oxt_fields::rules::FieldRules;
@@ -180,10 +179,7 @@ fn note_names(
     scoping: &Scoping,
     lists: &mut PlanLists,
 ) -> Result<(), OutOfMemory> {
-    let places = Places::of_tree(alloc, program)?;
-    let first = first_blocks(alloc, program, scoping, &places);
-    drop(places);
-    lists.first = first?;
+    lists.first = first_of(alloc, program, scoping)?;
     lists.never_written = never_written_nodes(alloc, program, scoping)?;
     Ok(())
 }

@@ -13,13 +13,14 @@ use Rattle.oxt_class_checks.specs.Misplaced.{around_inside, fault_in}
 use Rattle.oxt_class_checks.specs.Refused.{refused_accessors}
 use Rattle.oxt_class_checks.specs.declared.class.ClassFacts.{ClassFacts}
 use Rattle.oxt_declares.specs.Dropped.{inside_dropped_by, is_dropped_by, keeps_decorators}
+use Rattle.oxt_enum_checks.specs.Blocks.{block_with, blocks, blocks_of, is_block_kind}
 use Rattle.oxt_enum_checks.specs.Clash.{first_clash, least_clash}
 use Rattle.oxt_enum_checks.specs.First.{first_blocks, numbers_of}
 use Rattle.oxt_enum_checks.specs.LateBase.{late_base, least_late}
 use Rattle.oxt_enum_checks.specs.Misused as misuse
 use Rattle.oxt_enum_checks.specs.Misused.{HasNoWrittenMember, by_number, by_value, is_misused_as, is_misused_use, misused, misused_at, names_element}
 use Rattle.oxt_enum_checks.specs.Places.{Placed, places_of}
-use Rattle.oxt_enum_checks.specs.Sought.{block_named, first_names, is_block_kind, named_blocks, sought_blocks}
+use Rattle.oxt_enum_checks.specs.Sought.{sought_blocks}
 use Rattle.oxt_enum_checks.specs.declared.sought.Sought.{Sought}
 use Rattle.oxt_enum_checks.specs.declared.sought.Sought.TheVariants as sought
 use Rattle.oxt_faults.specs.Around.{elements_in, no_class}
@@ -80,10 +81,10 @@ never false b h = refl
 -- ---- kinds
 
 -- the kinds of which a search is made for one form
-abbrev one : Kind → Kind → Bool
+abbrev pub one : Kind → Kind → Bool
 one j k = same_kind k j
 
-member_is_form : AreForms (one kind.TSEnumMember)
+pub member_is_form : AreForms (one kind.TSEnumMember)
 member_is_form k h = at_first _ _ h
 
 block_is_form : AreForms (one kind.TSModuleBlock)
@@ -301,16 +302,19 @@ among_two true b more h = refl
 among_two false true more h = refl
 among_two false false more h = absurd (true≢false (sym h))
 
-block_kind_is_form : AreForms is_block_kind
+pub block_kind_is_form : AreForms is_block_kind
 block_kind_is_form k h = behind_eight k _ (among_two (same_kind k kind.TSEnumDeclaration) (same_kind k kind.TSNamespaceDeclaration) _ h)
 
-no_sought : (p : Placed) (o : Sought) (s : Scoped) (d : Doc) → has_block d ≡ false → sought_blocks p o s d ≡ []
-no_sought p o s d h =
-    none_in is_block_kind (named_blocks s (first_names p o s.symbols)) block_kind_is_form gives d tt
+no_blocks : (d : Doc) → has_block d ≡ false → blocks_of d ≡ []
+no_blocks d h =
+    none_in is_block_kind blocks block_kind_is_form gives d tt
     (any_either (one kind.TSEnumDeclaration) (one kind.TSNamespaceDeclaration) (occurring d) ∙ h)
   where
-    gives : GivesAtAlone is_block_kind (named_blocks s (first_names p o s.symbols))
-    gives u k i ds off = ap (λ b. cond b (block_named s (first_names p o s.symbols) i (named (codes "id") k ds)) None) off
+    gives : GivesAtAlone is_block_kind blocks
+    gives u k i ds off = ap (λ b. cond b (block_with i (named (codes "id") k ds)) None) off
+
+no_sought : (p : Placed) (o : Sought) (s : Scoped) (d : Doc) → has_block d ≡ false → sought_blocks p o s (blocks_of d) ≡ []
+no_sought p o s d h = ap (sought_blocks p o s) (no_blocks d h)
 
 pub no_block_first : (s : Scoped) (d : Doc) → has_block d ≡ false → [] ≡ first_blocks s d
 no_block_first s d h = sym (ap numbers_of (no_sought (places_of d) sought.Any s d h))

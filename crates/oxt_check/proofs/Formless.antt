@@ -27,7 +27,7 @@ any_append : (p : Kind → Bool) (xs ys : List Kind) → list_any p (xs ++ ys) �
 any_append p [] ys = refl
 any_append p (x ∷ xs) ys = ap (λ b. p x || b) (any_append p xs ys) ∙ grouped (p x) (list_any p xs) (list_any p ys)
 
-apart : (p : Kind → Bool) (xs ys : List Kind) → list_any p (xs ++ ys) ≡ false → (list_any p xs ≡ false) × (list_any p ys ≡ false)
+pub apart : (p : Kind → Bool) (xs ys : List Kind) → list_any p (xs ++ ys) ≡ false → (list_any p xs ≡ false) × (list_any p ys ≡ false)
 apart p xs ys h = neither (list_any p xs) (list_any p ys) (sym (any_append p xs ys) ∙ h)
 
 -- the kinds are among the forms
@@ -38,7 +38,7 @@ AreForms p = (k : Kind) → p k ≡ true → is_form k ≡ true
 abbrev pub GivesAtAlone : {S A : Type 0} → (Kind → Bool) → Sought S A → Type 0
 GivesAtAlone {S} p q = (s : S) (k : Kind) (i : ℕ) (ds : Docs) → p k ≡ false → q.at s k i ds ≡ None
 
-other_kind : (p : Kind → Bool) → AreForms p → (k : Kind) → list_any p (given (form_at k)) ≡ false → p k ≡ false
+pub other_kind : (p : Kind → Bool) → AreForms p → (k : Kind) → list_any p (given (form_at k)) ≡ false → p k ≡ false
 other_kind p f k h = by (p k) refl
   where
     by : (b : Bool) → p k ≡ b → p k ≡ false

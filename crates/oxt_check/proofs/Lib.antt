@@ -2,7 +2,10 @@ pub mod Absences
 pub mod Checked
 pub mod Collected
 pub mod Decisions
+pub mod Derived
 pub mod Formless
 pub mod Kept
+pub mod NoMembers
+pub mod Quiet
 pub mod Remainders
 pub mod Tellings

@@ -34,25 +34,30 @@ word_capture w = record { node = w.1; name = text_of_word w.0 }
 abbrev pub shadow_capture : Shadow → Capture
 shadow_capture n = record { node = n.node; name = n.name }
 
--- of the words in initializers that stay as written and of those in namespaces, the one at the node of the lesser number
-abbrev pub captured_word : Bool → Scoped → Doc → Option Capture
-captured_word legacy s d =
-    former (option_map word_capture (initializer_word legacy s d)) (option_map word_capture (namespace_word legacy d))
+-- of the words in initializers that stay as written, of which that is the first, and of those in namespaces, the one at the node
+-- of the lesser number
+abbrev pub word_beside : Option LevelWordAt → Bool → Doc → Option Capture
+word_beside w legacy d = former (option_map word_capture w) (option_map word_capture (namespace_word legacy d))
 
 -- of names in classes whose fields move, and in decorators that move
 abbrev pub captured_moved : Scoped → Rules → Doc → Option Capture
 captured_moved s r d = former (moved_capture s r d) (decorator_capture r.legacy d)
 
--- of names whose declarations are erased, of free names that are made and of names of enums, where that is kept
-abbrev pub captured_spelling : Rules → Scoped → (ℕ → Bool) → Doc → Option Capture
-captured_spelling r s ks d =
+-- of names whose declarations are erased, of free names that are made and of names of enums, of which that is the first, where
+-- that is kept
+abbrev pub spelling_beside : Option Shadow → Rules → Scoped → (ℕ → Bool) → Doc → Option Capture
+spelling_beside n r s ks d =
     former (all_captured r s (is_in (left_out ks d)) d)
-    (former (free r s ks d) (option_map shadow_capture (shadowed r.legacy s d)))
+    (former (free r s ks d) (option_map shadow_capture n))
+
+-- the first of all, where these are the first word in an initializer and the first name of an enum
+abbrev pub capture_beside : Option LevelWordAt → Option Shadow → Scoped → Rules → (ℕ → Bool) → Doc → Option Capture
+capture_beside w n s r ks d =
+    former (word_beside w r.legacy d) (former (captured_moved s r d) (spelling_beside n r s ks d))
 
 -- The one at the node of the least number of a whole tree, whose fields are lowered by these rules and in which that is
 -- kept: of words in initializers that stay as written, of words in namespaces, of names in classes whose fields move and in
 -- decorators that move, of names whose declarations are erased, of free names that are made, and of names of enums; of several at one node the first
 -- of these.
 abbrev pub first_capture : Scoped → Rules → (ℕ → Bool) → Doc → Option Capture
-first_capture s r ks d =
-    former (captured_word r.legacy s d) (former (captured_moved s r d) (captured_spelling r s ks d))
+first_capture s r ks d = capture_beside (initializer_word r.legacy s d) (shadowed r.legacy s d) s r ks d

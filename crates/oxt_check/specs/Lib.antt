@@ -5,6 +5,7 @@ pub mod Faults
 pub mod Laws
 pub mod Misplacements
 pub mod Occurring
+pub mod Quiet
 pub mod Refusals
 pub mod Seats
 pub mod Targets

@@ -45,12 +45,12 @@ of_kind k n = option_map (λ (i : ℕ). (k, i)) n
 abbrev pub MisusesNone : Scoped → Doc → Type 0
 MisusesNone s d = HasNoWrittenMember s × (names_elements d ≡ false)
 
--- the first that names decide: a function or class behind a namespace of its name, a declaration that does not merge, a
--- member of an enum or a bare name of one
-abbrev pub named_misplacement : Bool → Scoped → Doc → Option Misplacement
-named_misplacement legacy s d =
+-- the first that names decide, of whose members of enums and bare names of them that is the first: a function or class behind a
+-- namespace of its name, a declaration that does not merge, or that one
+abbrev pub named_beside : Scoped → Doc → Option ℕ → Option Misplacement
+named_beside s d n =
     former (of_kind misplaced_kind.Namespace (late_base s d))
-    (former (of_kind misplaced_kind.Merge (first_clash s d)) (of_kind misplaced_kind.Enum (misnamed legacy s d)))
+    (former (of_kind misplaced_kind.Merge (first_clash s d)) (of_kind misplaced_kind.Enum n))
 
 -- what is misplaced where that is wrong with an element of a class
 abbrev pub element_kind : ClassFault → MisplacedKind
@@ -66,7 +66,11 @@ of_element e = (element_kind e.0, e.1)
 abbrev pub class_misplacement : Rules → Doc → Option Misplacement
 class_misplacement r d = option_map of_element (misplaced_element r d)
 
+-- the first of all, where that is the first such member or bare name
+abbrev pub misplacement_beside : Scoped → Rules → Doc → Option ℕ → Option Misplacement
+misplacement_beside s r d n = former (misplaced r d) (former (named_beside s d n) (class_misplacement r d))
+
 -- The first of a whole tree: of all kinds the one at the node of the least number, and of several kinds at one node the
 -- earliest.
 abbrev pub first_misplacement : Scoped → Rules → Doc → Option Misplacement
-first_misplacement s r d = former (misplaced r d) (former (named_misplacement r.legacy s d) (class_misplacement r d))
+first_misplacement s r d = misplacement_beside s r d (misnamed r.legacy s d)

@@ -1,13 +1,16 @@
 -- Which forms that only some programs have occur in a program.
-use Rattle.std.specs.Prelude.{◌||◌, List, [], ◌∷◌, Bool, if◌then◌else◌, Option, None, Some}
+use Rattle.std.specs.Prelude.{ℕ, ◌||◌, List, [], ◌∷◌, ◌++◌, Bool, if◌then◌else◌, Option, None, Some}
 use Rattle.std.specs.List.{list_any}
+use Rattle.oxt_check.specs.declared.survey.Form.{Form}
+use Rattle.oxt_enum_checks.specs.Blocks.{own_block}
+use Rattle.oxt_enum_checks.specs.declared.blocks.Block.{Block}
 use Rattle.oxt_grammar.specs.Places.{same_kind}
 use Rattle.oxt_grammar.specs.declared.kind.Kind.{Kind}
 use Rattle.oxt_grammar.specs.declared.kind.Kind.TheVariants as kind
-use Rattle.oxt_search.specs.All.{all_in}
+use Rattle.oxt_search.specs.All.{all_in, given}
 use Rattle.oxt_search.specs.Sought.{Sought}
 use Rattle.oxt_tree.specs.declared.inside.Inside.TheVariants as inside
-use Rattle.oxt_tree.specs.Doc.{Doc}
+use Rattle.oxt_tree.specs.Doc.{Doc, Docs}
 
 -- the kinds of which only some programs have nodes
 abbrev pub form_kinds : List Kind
@@ -48,6 +51,36 @@ forms =
 -- the kinds of those of a tree, in the order of the text
 abbrev pub occurring : Doc → List Kind
 occurring d = all_in forms d tt
+
+-- ---- the same and the blocks among them, as one search finds both
+
+-- a node of that kind, which is that block
+abbrev pub form_with : Kind → Option Block → Form
+form_with k b = record { kind = k; block = b }
+
+-- the node, if it is of such a kind
+abbrev pub listed_form : Kind → ℕ → Docs → Option Form
+listed_form k i ds = if is_form k then Some (form_with k (own_block k i ds)) else None
+
+-- each such node
+abbrev pub listed_forms : Sought (Unit {0}) Form
+listed_forms =
+    record {
+      at = λ u k i ds. listed_form k i ds;
+      inside = λ u k i ds. inside.Alike u;
+      in_field = λ u k r. Some u;
+    }
+
+-- those of a tree, in the order of the text
+abbrev pub forms_of : Doc → List Form
+forms_of d = all_in listed_forms d tt
+
+-- the blocks among them
+abbrev pub blocks_among : List Form → List Block
+blocks_among [] = []
+blocks_among (f ∷ fs) = given f.block ++ blocks_among fs
+
+-- ---- which of them occur
 
 -- a node of the kind, which is one of such forms, occurs
 abbrev pub occurs : Doc → Kind → Bool

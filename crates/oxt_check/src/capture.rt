@@ -1,12 +1,11 @@
 //! The first captured name of a program, by all that captures.
 ghost use Rattle.std.specs.Prelude.{◌≡◌, ◌||◌, IfOk, option_map};
-ghost use Rattle.oxt_check.specs.Captures.{captured_moved, captured_spelling, captured_word, first_capture, former, name_view, shadow_capture, word_capture};
+ghost use Rattle.oxt_check.specs.Captures.{capture_beside, captured_moved, former, name_view, shadow_capture, spelling_beside, word_beside, word_capture};
 ghost use Rattle.oxt_check.specs.Occurring.{makes_names};
 ghost use Rattle.oxt_enum_checks.specs.Shadows.{shadow_view};
 ghost use Rattle.oxt_faults.specs.Captured.{capture_view};
 ghost use Rattle.oxt_faults.specs.Earliest.{moved_view};
 ghost use Rattle.oxt_faults.specs.Free.{free, free_view};
-ghost use Rattle.oxt_faults.specs.Initializers.{initializer_word};
 ghost use Rattle.oxt_faults.specs.Level.{found_view};
 ghost use Rattle.oxt_faults.specs.Moved.{moved_capture};
 ghost use Rattle.oxt_faults.specs.Namespaces.{namespace_word};
@@ -15,12 +14,12 @@ ghost use Rattle.oxt_modules.specs.Aliases.{left_out};
 ghost use Rattle.oxt_options.specs.Facts.{is_in};
 ghost use Rattle.oxt_tree.specs.View.{node_doc};
 
+use crate::enums::EnumFaults;
 use crate::survey::Survey;
 use oxt_class_checks::moved::first_moved_decorator;
-use oxt_enum_checks::shadowed::{ShadowedName, first_shadowed};
+use oxt_enum_checks::shadowed::ShadowedName;
 use oxt_faults::captured::{CapturedName, first_captured};
 use oxt_faults::free::{FoundFree, first_free};
-use oxt_faults::initializer::first_initializer_word;
 use oxt_faults::level::FoundWord;
 use oxt_faults::moved::{MovedName, first_moved_capture};
 use oxt_faults::namespace::first_namespace_word;
@@ -45,7 +44,7 @@ pub struct NameAt<'a> {
 /// a name in a field, a key or a constructor of a class whose fields move, or in a decorator that moves, a name whose
 /// declaration is erased, a free name that is made and has a declaration around it, or the name of an enum at a bare name of a member, which is written by
 /// way of it. Of several at one node it is the first of these. `scoping` is the table of the program that was surveyed, `rules` say how its
-/// fields are lowered, and `kept` lists what of its imports and exports is kept.
+/// fields are lowered, `kept` lists what of its imports and exports is kept, and `enums` are what is wrong with its enums.
 ///
 /// # Errors
 ///
@@ -56,46 +55,30 @@ pub fn first_capture<'a>(
     scoping: &'a Scoping,
     rules: FieldRules,
     kept: &NodeList,
+    enums: &EnumFaults<'a>,
 ) -> Result<Option<NameAt<'a>>, OutOfMemory>
     ensures { IfOk result (λ found. option_map name_view found
-        ≡ first_capture scoping.now (rules_view rules.entry) (is_in kept.now) (node_doc survey.now.program.now)) }
+        ≡ capture_beside (option_map found_view enums.now.word) (option_map shadow_view enums.now.shadowed) scoping.now (rules_view rules.entry) (is_in kept.now) (node_doc survey.now.program.now)) }
 {
-    let word = captured_word(alloc, survey, scoping, rules.legacy)?;
+    let word = captured_word(survey, enums.word, rules.legacy);
     let moved = captured_moved(alloc, survey, scoping, rules)?;
-    let spelling = captured_spelling(alloc, survey, scoping, rules, kept)?;
+    let spelling = captured_spelling(alloc, survey, scoping, rules, kept, enums.shadowed)?;
     Ok(former(word, former(moved, spelling)))
 }
 
-/// The first word in an initializer or a namespace that goes into a function.
+/// The first word in an initializer, which is that one, or a namespace that goes into a function.
 fn captured_word<'a>(
-    alloc: Global,
     survey: &Survey<'a>,
-    scoping: &'a Scoping,
+    initializer: Option<FoundWord>,
     legacy: bool,
-) -> Result<Option<NameAt<'a>>, OutOfMemory>
-    ensures { IfOk result (λ found. option_map name_view found
-        ≡ captured_word legacy scoping.now (node_doc survey.now.program.now)) }
+) -> Option<NameAt<'a>>
+    ensures { option_map name_view result
+        ≡ word_beside (option_map found_view initializer) legacy (node_doc survey.now.program.now) }
 {
-    let initializer = word_in_initializer(alloc, survey, scoping, legacy)?;
-    let namespace = word_in_namespace(survey, legacy);
-    Ok(former(of_word(initializer), of_word(namespace)))
-}
-
-/// The first word in an initializer.
-fn word_in_initializer(
-    alloc: Global,
-    survey: &Survey,
-    scoping: &Scoping,
-    legacy: bool,
-) -> Result<Option<FoundWord>, OutOfMemory>
-    ensures { IfOk result (λ found. option_map found_view found
-        ≡ initializer_word legacy scoping.now (node_doc survey.now.program.now)) }
-{
-    if survey.has(Kind::TSEnumMember) {
-        first_initializer_word(alloc, legacy, survey.program, scoping)
-    } else {
-        Ok(None)
-    }
+    former(
+        of_word(initializer),
+        of_word(word_in_namespace(survey, legacy)),
+    )
 }
 
 /// The first word in a namespace.
@@ -141,23 +124,23 @@ fn name_in_field<'a>(
     }
 }
 
-/// The first name that would mean another declaration.
+/// The first name that would mean another declaration, of names of enums that one.
 fn captured_spelling<'a>(
     alloc: Global,
     survey: &Survey<'a>,
     scoping: &'a Scoping,
     rules: FieldRules,
     kept: &NodeList,
+    shadowed: Option<ShadowedName<'a>>,
 ) -> Result<Option<NameAt<'a>>, OutOfMemory>
     ensures { IfOk result (λ found. option_map name_view found
-        ≡ captured_spelling (rules_view rules.entry) scoping.now (is_in kept.now) (node_doc survey.now.program.now)) }
+        ≡ spelling_beside (option_map shadow_view shadowed.entry) (rules_view rules.entry) scoping.now (is_in kept.now) (node_doc survey.now.program.now)) }
 {
     let program = survey.program;
     let left_out = left_out_of(alloc, survey, kept)?;
     let erased = of_name(first_captured(alloc, rules, program, scoping, &left_out)?);
     let made = of_free(made_name(survey, scoping, rules, kept));
-    let shadowed = of_shadow(first_shadowed(alloc, program, scoping, rules.legacy)?);
-    Ok(former(erased, former(made, shadowed)))
+    Ok(former(erased, former(made, of_shadow(shadowed))))
 }
 
 /// The names of those of the declarations `import a = ..` that are not kept.

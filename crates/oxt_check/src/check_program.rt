@@ -14,6 +14,7 @@ ghost use Rattle.oxt_names.specs.Names.{name_bytes};
 ghost use Rattle.oxt_tree.specs.View.{node_doc};
 
 use crate::capture::{NameAt, first_capture};
+use crate::enums::enum_faults;
 use crate::fault::Fault;
 use crate::misplacement::first_misplacement;
 use crate::survey::Survey;
@@ -196,13 +197,14 @@ fn check_places(
         (place_fault scoping.now (rules_view rules.entry) (is_in kept.now) (node_doc survey.now.program.now))) }
 {
     let program = survey.program;
-    if let Some(misplaced) = first_misplacement(alloc, survey, scoping, rules)? {
+    let enums = enum_faults(alloc, survey, scoping, rules.legacy)?;
+    if let Some(misplaced) = first_misplacement(alloc, survey, scoping, rules, enums.misnamed)? {
         return Err(misplaced_fault(alloc, program, misplaced)?);
     }
     if let Some(member) = first_wide(program, scoping, rules.legacy) {
         return Err(Fault::Wide { span: member.span });
     }
-    if let Some(captured) = first_capture(alloc, survey, scoping, rules, kept)? {
+    if let Some(captured) = first_capture(alloc, survey, scoping, rules, kept, &enums)? {
         return Err(captured_fault(alloc, program, captured)?);
     }
     Ok(())
@@ -333,7 +335,7 @@ fn first_of(alloc: Global, survey: &Survey, scoping: &Scoping) -> Result<Vec<Nod
     ensures { IfOk result (λ nodes. numbers_in nodes.items ≡ first_blocks scoping.now (node_doc survey.now.program.now)) }
 {
     if survey.has_block() {
-        first_blocks(alloc, survey.program, scoping, &survey.places)
+        first_blocks(alloc, survey.blocks.as_slice(), scoping, &survey.places)
     } else {
         Ok(Vec::new(alloc))
     }

@@ -5,6 +5,7 @@ pub mod beside;
 mod capture;
 pub mod check_program;
 pub mod diagnose;
+mod enums;
 pub mod fault;
 pub mod laws;
 mod misplacement;

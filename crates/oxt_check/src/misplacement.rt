@@ -1,10 +1,9 @@
 //! The first misplaced node of a program, of all kinds.
-ghost use Rattle.std.specs.Prelude.{◌≡◌, IfOk, false, option_map};
-ghost use Rattle.oxt_check.specs.Misplacements.{MisusesNone, class_misplacement, element_kind, first_misplacement, former, is_before, named_misplacement, of_element, of_kind, rank};
+ghost use Rattle.std.specs.Prelude.{◌≡◌, IfOk, option_map};
+ghost use Rattle.oxt_check.specs.Misplacements.{class_misplacement, element_kind, former, is_before, misplacement_beside, named_beside, of_element, of_kind, rank};
 ghost use Rattle.oxt_class_checks.specs.Misplaced.{element_view};
 ghost use Rattle.oxt_enum_checks.specs.Clash.{first_clash};
 ghost use Rattle.oxt_enum_checks.specs.LateBase.{late_base};
-ghost use Rattle.oxt_enum_checks.specs.Misused.{misused};
 ghost use Rattle.oxt_faults.specs.Misplaced.{misplaced_view};
 ghost use Rattle.oxt_fields.specs.Rules.{rules_view};
 ghost use Rattle.oxt_tree.specs.View.{node_doc};
@@ -12,8 +11,6 @@ ghost use Rattle.oxt_tree.specs.View.{node_doc};
 use crate::survey::Survey;
 use oxt_class_checks::misplaced::{ClassFault, MisplacedElement, first_misplaced_element};
 use oxt_enum_checks::merges::{MergeFaults, merge_faults};
-use oxt_enum_checks::misnamed::first_misnamed;
-use oxt_enum_checks::misused::{first_misused, has_written_member};
 use oxt_faults::misplaced::{Misplaced, MisplacedKind, first_misplaced};
 use oxt_fields::rules::FieldRules;
 use oxt_names::ids::{NodeId, OutOfMemory};
@@ -24,7 +21,8 @@ use std::alloc::Global;
 /// The misplaced node of the least number: what stands where it may not, a function or class behind a namespace of its
 /// name, a declaration that does not merge with an earlier one of its name, a member of an enum, or a bare name of one,
 /// that cannot be lowered, and an element of a class that cannot be lowered by the rules of fields. Of several kinds at one
-/// node it is the first in their order. `scoping` is the table of the program that was surveyed.
+/// node it is the first in their order. `scoping` is the table of the program that was surveyed, and `misnamed` is the first
+/// such member or bare name.
 ///
 /// # Errors
 ///
@@ -34,11 +32,12 @@ pub fn first_misplacement(
     survey: &Survey,
     scoping: &Scoping,
     rules: FieldRules,
+    misnamed: Option<NodeId>,
 ) -> Result<Option<Misplaced>, OutOfMemory>
     ensures { IfOk result (λ found. option_map misplaced_view found
-        ≡ first_misplacement scoping.now (rules_view rules.entry) (node_doc survey.now.program.now)) }
+        ≡ misplacement_beside scoping.now (rules_view rules.entry) (node_doc survey.now.program.now) (option_map (λ node. node.0) misnamed)) }
 {
-    let named = named_misplacement(alloc, survey, scoping, rules.legacy)?;
+    let named = named_misplacement(alloc, survey, scoping, misnamed)?;
     let of_class = class_misplacement(alloc, survey, rules)?;
     Ok(former(
         first_misplaced(survey.program, rules),
@@ -51,14 +50,12 @@ fn named_misplacement(
     alloc: Global,
     survey: &Survey,
     scoping: &Scoping,
-    legacy: bool,
+    misnamed: Option<NodeId>,
 ) -> Result<Option<Misplaced>, OutOfMemory>
     ensures { IfOk result (λ found. option_map misplaced_view found
-        ≡ named_misplacement legacy scoping.now (node_doc survey.now.program.now)) }
+        ≡ named_beside scoping.now (node_doc survey.now.program.now) (option_map (λ node. node.0) misnamed)) }
 {
     let MergeFaults { late_base, clash } = merge_faults_in(alloc, survey, scoping)?;
-    let misused = misused_in(survey, scoping, legacy);
-    let misnamed = first_misnamed(alloc, survey.program, scoping, legacy, misused)?;
     let merged = former(
         of_kind(MisplacedKind::Merge, clash),
         of_kind(MisplacedKind::Enum, misnamed),
@@ -78,34 +75,12 @@ fn merge_faults_in(
         ≡ first_clash scoping.now (node_doc survey.now.program.now)) }
 {
     if survey.has_block() {
-        merge_faults(alloc, survey.program, scoping, &survey.places)
+        merge_faults(alloc, survey.blocks.as_slice(), scoping, &survey.places)
     } else {
         Ok(MergeFaults {
             late_base: None,
             clash: None,
         })
-    }
-}
-
-/// The first bare name of a member of an enum that stands where its value cannot.
-fn misused_in(survey: &Survey, scoping: &Scoping, legacy: bool) -> Option<NodeId>
-    ensures { option_map (λ node. node.0) result ≡ misused legacy scoping.now (node_doc survey.now.program.now) }
-{
-    if may_misuse(survey, scoping) {
-        first_misused(survey.program, scoping, legacy)
-    } else {
-        None
-    }
-}
-
-/// Whether such a name may stand in the program: one that is written, or that names an element of JSX.
-fn may_misuse(survey: &Survey, scoping: &Scoping) -> bool
-    ensures { result ≡ false → MisusesNone scoping.now (node_doc survey.now.program.now) }
-{
-    if survey.names_elements() {
-        true
-    } else {
-        has_written_member(scoping)
     }
 }
 

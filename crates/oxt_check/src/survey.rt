@@ -1,13 +1,16 @@
 //! Which forms that only some programs have occur in a program. Where a form does not, a search for what may be wrong with it
 //! need not be made.
-ghost use Rattle.std.specs.Prelude.{◌≡◌, IfOk, true};
+ghost use Rattle.std.specs.Prelude.{◌≡◌, ◌++◌, IfOk, OnOk, map, true};
 ghost use Rattle.std.specs.List.{list_any};
-ghost use Rattle.oxt_check.specs.Occurring.{form_at, form_kinds, forms, has_block, has_block_among, has_class, has_jsx, is_form, makes_names, names_elements, occurring, occurs};
+ghost use Rattle.oxt_check.specs.Occurring.{blocks_among, form_kinds, form_with, forms_of, has_block, has_block_among, has_class, has_jsx, is_form, listed_form, listed_forms, makes_names, names_elements, occurring, occurs};
+ghost use Rattle.oxt_check.specs.declared.survey.Form.{Form};
+ghost use Rattle.oxt_enum_checks.specs.Blocks.{blocks_of};
 ghost use Rattle.oxt_enum_checks.specs.Places.{places_in, places_of};
 ghost use Rattle.oxt_grammar.specs.Places.{same_kind};
-ghost use Rattle.oxt_grammar.specs.declared.kind.Kind.{Kind};
-ghost use Rattle.oxt_tree.specs.View.{node_doc};
+ghost use Rattle.oxt_search.specs.All.{given};
+ghost use Rattle.oxt_tree.specs.View.{docs_in, node_doc};
 
+use oxt_enum_checks::blocks::{Block, own_block};
 use oxt_enum_checks::places::Places;
 use oxt_grammar::holds::Row;
 use oxt_grammar::kind::Kind;
@@ -17,16 +20,28 @@ use oxt_search::search::{Inside, Search, Visit};
 use oxt_tree::tree::Node;
 use std::alloc::Global;
 
-/// A program, and those of the kinds of its nodes that only some programs have.
+/// A node of a kind that only some programs have.
+#[derive(Clone, Copy)]
+pub struct Form {
+    /// Its kind.
+    pub kind: Kind,
+    /// The block of an enum or a namespace that it is.
+    pub block: Option<Block>,
+}
+
+/// A program, and those of its nodes that only some programs have.
 #[derive(Drop)]
 pub struct Survey<'a> {
     /// The program.
     pub program: &'a Node,
-    /// These kinds.
+    /// Their kinds.
     pub kinds: Vec<Kind>,
-    /// The declarations of its names, if a block of an enum or a namespace occurs.
+    /// The blocks of enums and namespaces among them.
+    pub blocks: Vec<Block>,
+    /// The declarations of the program's names, if such a block occurs.
     pub places: Places,
     ghost complete: { kinds.items ≡ occurring (node_doc program.now) },
+    ghost named: { blocks.items ≡ blocks_of (node_doc program.now) },
     ghost placed: { has_block (node_doc program.now) ≡ true → places_in places ≡ places_of (node_doc program.now) },
 }
 
@@ -40,11 +55,22 @@ impl<'a> Survey<'a> {
     pub fn of(alloc: Global, program: &'a Node) -> Result<Survey<'a>, OutOfMemory>
         ensures { IfOk result (λ survey. node_doc survey.program.now ≡ node_doc program.now) }
     {
-        let kinds = all_in(alloc, &Forms, program, ())?;
+        let forms = all_in(alloc, &Forms, program, ())?;
+        Survey::with(alloc, program, forms.as_slice())
+    }
+
+    /// That of the program in which these forms occur.
+    fn with(alloc: Global, program: &'a Node, forms: &[Form]) -> Result<Survey<'a>, OutOfMemory>
+        requires { forms.now ≡ forms_of (node_doc program.now) }
+        ensures { IfOk result (λ survey. node_doc survey.program.now ≡ node_doc program.now) }
+    {
+        let kinds = kinds_among(alloc, forms)?;
+        let blocks = blocks_among(alloc, forms)?;
         let places = places_of(alloc, program, kinds.as_slice())?;
         Ok(Survey {
             program,
             kinds,
+            blocks,
             places,
         })
     }
@@ -95,6 +121,40 @@ impl<'a> Survey<'a> {
     }
 }
 
+/// The kinds of the forms.
+#[tactic(auto, using(crate::proofs::Derived::kind_steps))]
+fn kinds_among(alloc: Global, forms: &[Form]) -> Result<Vec<Kind>, OutOfMemory>
+    ensures { IfOk result (λ kinds. kinds.items ≡ map (λ form. form.kind) forms.now) }
+{
+    let mut kinds = Vec::new(alloc);
+    for form in forms {
+        kinds.push(form.kind)?;
+    }
+    Ok(kinds)
+}
+
+/// The blocks among the forms.
+#[tactic(auto, using(crate::proofs::Derived::block_steps))]
+fn blocks_among(alloc: Global, forms: &[Form]) -> Result<Vec<Block>, OutOfMemory>
+    ensures { IfOk result (λ blocks. blocks.items ≡ blocks_among forms.now) }
+{
+    let mut blocks = Vec::new(alloc);
+    for form in forms {
+        push_block(form.block, &mut blocks)?;
+    }
+    Ok(blocks)
+}
+
+/// Appends the block, if there is one.
+fn push_block(block: Option<Block>, blocks: &mut Vec<Block>) -> Result<(), OutOfMemory>
+    ensures { OnOk result (blocks.new.items ≡ blocks.old.items ++ given block) }
+{
+    if let Some(block) = block {
+        blocks.push(block)?;
+    }
+    Ok(())
+}
+
 /// The declarations of the names of the program, in which such nodes of these kinds occur; none if no block is among them.
 fn places_of(alloc: Global, program: &Node, kinds: &[Kind]) -> Result<Places, OutOfMemory>
     requires { kinds.now ≡ occurring (node_doc program.now) }
@@ -129,18 +189,18 @@ struct Forms;
 impl Search for Forms {
     type State = ();
 
-    type Found = Kind;
+    type Found = Form;
 
-    ghost Seen = { Kind };
+    ghost Seen = { Form };
 
-    ghost view = { λ kind. kind };
+    ghost view = { λ form. form };
 
-    ghost sought = { λ _. forms };
+    ghost sought = { λ _. listed_forms };
 
     #[tactic(auto, using(oxt_search::proofs::Given::as_it_is))]
-    fn visit(&self, node: &Node, _state: ()) -> Visit<Kind, ()> {
+    fn visit(&self, node: &Node, _state: ()) -> Visit<Form, ()> {
         Visit {
-            found: form_at(node.kind),
+            found: form_of(node),
             inside: Inside::Alike(()),
         }
     }
@@ -150,11 +210,18 @@ impl Search for Forms {
     }
 }
 
-/// The kind, if only some programs have nodes of it.
-fn form_at(kind: Kind) -> Option<Kind>
-    ensures { result ≡ form_at kind }
+/// The node, if only some programs have nodes of its kind.
+fn form_of(node: &Node) -> Option<Form>
+    ensures { result ≡ listed_form node.now.kind node.now.id.0 (docs_in node.now.parts.items) }
 {
-    if is_form(kind) { Some(kind) } else { None }
+    if is_form(node.kind) {
+        Some(Form {
+            kind: node.kind,
+            block: own_block(node),
+        })
+    } else {
+        None
+    }
 }
 
 /// Whether only some programs have nodes of the kind.

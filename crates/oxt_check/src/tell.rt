@@ -1,9 +1,12 @@
 //! Collects what the writer of a program is told, in the order of the text.
 ghost use Rattle.std.specs.Prelude.{◌≡◌, ◌++◌, [], if◌then◌else◌, map, OnOk};
+ghost use Rattle.std.specs.List.{list_any};
 ghost use Rattle.oxt_grammar.specs.Field.{row_view};
 ghost use Rattle.oxt_check.specs.Diagnostics.{told_among, told_below, told_first, told_if, told_in, told_of_code, told_of_module, told_of_namespace, wrapper_stays};
+ghost use Rattle.oxt_check.specs.Quiet.{is_name, is_quiet};
 ghost use Rattle.oxt_options.specs.Facts.{is_in};
 ghost use Rattle.oxt_options.specs.Options.{transform_view};
+ghost use Rattle.oxt_search.specs.Sought.{holds_nodes};
 ghost use Rattle.oxt_tree.specs.View.{docs_in, node_doc, part_doc};
 
 use crate::named::{
@@ -15,11 +18,14 @@ use crate::sight::{Sight, is_changing, is_nested_module};
 use crate::wrapped::{held_by, is_wrapped_target};
 use oxt_declares::dropped::is_dropped;
 use oxt_grammar::holds::{Holds, Row};
+use oxt_grammar::kind::Kind;
 use oxt_names::diagnostic::{DiagnosticKind, OxcDiagnostic};
 use oxt_names::ids::OutOfMemory;
+use oxt_search::search::holds_nodes;
 use oxt_tree::tree::{Node, Part};
 
-/// Appends what is told of the node, which stands in that seat and where a field holds `holds`, and then of those in it.
+/// Appends what is told of the node, which stands in that seat and where a field holds `holds`, and then of those in it. Half of
+/// the nodes of a program are names that hold none, and of these nothing is told.
 #[cycle(tell)]
 pub fn tell_of_node(
     told: &mut Vec<OxcDiagnostic>,
@@ -31,6 +37,9 @@ pub fn tell_of_node(
     ensures { OnOk result (told.new.items ≡ told.old.items
         ++ told_in (node_doc node.now) (is_in sight.now.plan.now.kept) (transform_view sight.now.options.now) seat holds) }
 {
+    if is_quiet(node) {
+        return Ok(());
+    }
     tell_of_namespace(told, sight, node, seat)?;
     let rows = node.kind.rows();
     let inside = seat.inside(node);
@@ -122,6 +131,29 @@ fn tell_of_first(
         Some(part) if is_kept => tell_of_part(told, sight, part, seat, held_by(rows.get(0))),
         _ => Ok(()),
     }
+}
+
+/// Whether the node is a name that holds no nodes.
+#[tactic(auto, using(oxt_tree::proofs::Lists::list_any_docs_in))]
+fn is_quiet(node: &Node) -> bool
+    ensures { result ≡ is_quiet node.now.kind (docs_in node.now.parts.items) }
+{
+    is_name(node.kind) && !has_nodes(&node.parts)
+}
+
+/// Whether nodes of the kind are names that are used, that stand for themselves, or that are declared.
+fn is_name(kind: Kind) -> bool
+    ensures { result ≡ is_name kind }
+{
+    kind.is(Kind::IdentifierReference)
+        || (kind.is(Kind::IdentifierName) || kind.is(Kind::BindingIdentifier))
+}
+
+/// Whether nodes may stand in one of the parts.
+fn has_nodes(parts: &[Part]) -> bool
+    ensures { result ≡ list_any (λ part. holds_nodes (part_doc part)) parts.now }
+{
+    parts.iter().any(|part| holds_nodes(part))
 }
 
 /// Appends what is told of the node itself for the sake of namespaces.

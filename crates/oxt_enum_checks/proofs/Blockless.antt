@@ -3,22 +3,18 @@ use Rattle.std.proofs.Common.{◌≡◌, ◌∙◌, refl, sym, ap, ℕ, zero, su
 use Rattle.std.specs.List.{list_any}
 use Rattle.std.specs.Map.{lookup}
 use Rattle.std.specs.Option.{option_eq}
-use Rattle.std.specs.Prelude.{codes, find, is_some, nat_eq, option_map, slice_get, slice_index_or}
+use Rattle.std.specs.Prelude.{find, is_some, nat_eq, option_map, slice_get, slice_index_or}
 use Rattle.oxt_enum_checks.specs.Clash.{clash_by, least_clash}
 use Rattle.oxt_enum_checks.specs.LateBase.{late_by, least_late}
 use Rattle.oxt_enum_checks.specs.Places.{Placed}
 use Rattle.oxt_enum_checks.specs.Sort.{is_block, sort_of}
-use Rattle.oxt_enum_checks.specs.Sought.{HasNoBlock, block_if, block_named, blocks_in, first_at, first_name, first_names, has_block, is_block_kind, is_emitting_block, is_first, is_sought, named_blocks, own_block}
-use Rattle.oxt_enum_checks.specs.declared.sought.Block.{Block}
+use Rattle.oxt_enum_checks.specs.Sought.{HasNoBlock, first_at, first_name, first_names, firsts_among, has_block, is_emitting_block, is_first, is_sought}
+use Rattle.oxt_enum_checks.specs.declared.blocks.Block.{Block}
 use Rattle.oxt_enum_checks.specs.declared.sought.Sought.TheVariants as sought
-use Rattle.oxt_search.proofs.Nothing.{none_in}
 use Rattle.oxt_scoping.specs.Entries.{SymbolData}
 use Rattle.oxt_scoping.specs.Scoped.{Scoped}
 use Rattle.oxt_scoping.specs.declared.entry.Redeclaration.{Redeclaration}
 use Rattle.oxt_names.specs.declared.ids.SymbolId.{SymbolId}
-use Rattle.oxt_grammar.specs.declared.kind.Kind.{Kind}
-use Rattle.oxt_tree.specs.Doc.{Doc, nil, flag, number, text, list, node, Docs}
-use Rattle.oxt_tree.specs.Fields.{named}
 
 -- the declarations of one symbol
 pub block_so : (o : Option SymbolData) (ds : List Redeclaration) (b : Bool) → option_map (λ (y : SymbolData). y.declarations) o ≡ Some ds → b ≡ list_any is_emitting_block ds → b ≡ has_block o
@@ -55,27 +51,15 @@ no_first p s h (Some i) = no_names p s.symbols h i.0
 not_first : (p : Placed) (s : Scoped) → HasNoBlock s → (n : ℕ) → is_first s (first_names p sought.Block s.symbols) n ≡ false
 not_first p s h n = ap (λ o. option_eq nat_eq o (Some n)) (no_first p s h (lookup (nat_eq n) s.declared))
 
-not_named : (p : Placed) (s : Scoped) → HasNoBlock s → (i : ℕ) (d : Doc) → block_named s (first_names p sought.Block s.symbols) i d ≡ None
-not_named p s h i nil = refl
-not_named p s h i (flag b) = refl
-not_named p s h i (number n) = refl
-not_named p s h i (text t) = refl
-not_named p s h i (list ds) = refl
-not_named p s h i (node k n b e ds) = ap (λ c. block_if c i n) (not_first p s h n)
+no_blocks : (p : Placed) (s : Scoped) → HasNoBlock s → (bs : List Block) → firsts_among s (first_names p sought.Block s.symbols) bs ≡ []
+no_blocks p s h [] = refl
+no_blocks p s h (b ∷ bs) =
+    let rest = firsts_among s (first_names p sought.Block s.symbols) bs in
+    ap (λ c. cond c (b ∷ rest) rest) (not_first p s h b.name.0) ∙ no_blocks p s h bs
 
-no_block : (p : Placed) (s : Scoped) → HasNoBlock s → (k : Kind) (i : ℕ) (ds : Docs) → own_block s (first_names p sought.Block s.symbols) k i ds ≡ None
-no_block p s h k i ds = pick (is_block_kind k) (block_named s (first_names p sought.Block s.symbols) i (named (codes "id") k ds)) (not_named p s h i (named (codes "id") k ds))
-  where
-    pick : (b : Bool) (o : Option Block) → o ≡ None → cond b o None ≡ None
-    pick true o e = e
-    pick false o e = refl
-
-no_blocks : (p : Placed) (s : Scoped) (d : Doc) → HasNoBlock s → blocks_in s (first_names p sought.Block s.symbols) d ≡ []
-no_blocks p s d h = none_in (named_blocks s (first_names p sought.Block s.symbols)) (λ u k i ds. no_block p s h k i ds) d tt
-
-pub no_clash : (p : Placed) (s : Scoped) (d : Doc) (b : Bool) → (b ≡ false → HasNoBlock s) → b ≡ false → None ≡ clash_by p s d
-no_clash p s d b none is = sym (ap (least_clash s p) (no_blocks p s d (none is)))
+pub no_clash : (p : Placed) (s : Scoped) (bs : List Block) (b : Bool) → (b ≡ false → HasNoBlock s) → b ≡ false → None ≡ clash_by p s bs
+no_clash p s bs b none is = sym (ap (least_clash s p) (no_blocks p s (none is) bs))
 
 -- and no function or class stands behind a namespace
-pub no_late : (p : Placed) (s : Scoped) (d : Doc) (b : Bool) → (b ≡ false → HasNoBlock s) → b ≡ false → None ≡ late_by p s d
-no_late p s d b none is = sym (ap (least_late s p) (no_blocks p s d (none is)))
+pub no_late : (p : Placed) (s : Scoped) (bs : List Block) (b : Bool) → (b ≡ false → HasNoBlock s) → b ≡ false → None ≡ late_by p s bs
+no_late p s bs b none is = sym (ap (least_late s p) (no_blocks p s (none is) bs))

@@ -7,7 +7,7 @@ use Rattle.oxt_enum_checks.specs.Clash.{clash_from, clash_of, clash_with, clashe
 use Rattle.oxt_enum_checks.specs.Places.{Placed}
 use Rattle.oxt_enum_checks.specs.Sort.{is_base, is_block, is_namespace}
 use Rattle.oxt_enum_checks.specs.declared.clash.Emitted.{Emitted}
-use Rattle.oxt_enum_checks.specs.declared.sought.Block.{Block}
+use Rattle.oxt_enum_checks.specs.declared.blocks.Block.{Block}
 use Rattle.oxt_enum_checks.specs.declared.sort.Sort.{Sort}
 use Rattle.oxt_enum_checks.specs.declared.sort.Sort.TheVariants as sort
 use Rattle.oxt_scoping.specs.Scoped.{Scoped}

@@ -5,7 +5,7 @@ use Rattle.oxt_enum_checks.specs.LateBase.{late_from, late_of}
 use Rattle.oxt_enum_checks.specs.Places.{Placed}
 use Rattle.oxt_enum_checks.specs.Sort.{is_base, is_namespace}
 use Rattle.oxt_enum_checks.specs.declared.clash.Emitted.{Emitted}
-use Rattle.oxt_enum_checks.specs.declared.sought.Block.{Block}
+use Rattle.oxt_enum_checks.specs.declared.blocks.Block.{Block}
 use Rattle.oxt_scoping.specs.Scoped.{Scoped}
 use Rattle.oxt_names.proofs.Lists.{drop_at, drop_end}
 

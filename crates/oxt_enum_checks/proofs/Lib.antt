@@ -3,12 +3,14 @@ pub mod Blockless
 pub mod Clashes
 pub mod Lates
 pub mod Leasts
+pub mod MemberSites
 pub mod Memberless
 pub mod Names
 pub mod Namesakes
 pub mod Numbers
 pub mod Seeks
 pub mod ShadowLoops
+pub mod ShadowSites
 pub mod Symbols
 pub mod WideLoops
 pub mod Written

@@ -5,7 +5,7 @@ use Rattle.std.specs.Prelude.{map, nat_lt, option_map, slice_get}
 use Rattle.oxt_enum_checks.specs.Sought.{declarations_of, first_name, first_names, symbol_in}
 use Rattle.oxt_enum_checks.specs.First.{numbers_of}
 use Rattle.oxt_enum_checks.specs.Places.{Placed}
-use Rattle.oxt_enum_checks.specs.declared.sought.Block.{Block}
+use Rattle.oxt_enum_checks.specs.declared.blocks.Block.{Block}
 use Rattle.oxt_enum_checks.specs.declared.sought.Sought.{Sought}
 use Rattle.oxt_scoping.specs.Entries.{SymbolData}
 use Rattle.oxt_scoping.specs.declared.entry.Redeclaration.{Redeclaration}

@@ -2,11 +2,12 @@
 use Rattle.std.specs.Prelude.{ℕ, List, [], ◌∷◌, ◌++◌, find, fold, min, Bool, false, not, ◌&&◌, ◌||◌, if◌then◌else◌, Option, None, Some, option_map}
 use Rattle.std.specs.Bool.{beq}
 use Rattle.std.specs.Option.{option_or}
+use Rattle.oxt_enum_checks.specs.Blocks.{blocks_of}
 use Rattle.oxt_enum_checks.specs.Sought.{declarations_of, declared_symbol, sought_blocks}
 use Rattle.oxt_enum_checks.specs.Places.{Placed, places_of}
 use Rattle.oxt_enum_checks.specs.Sort.{is_base, is_block, is_namespace, sort_of}
 use Rattle.oxt_enum_checks.specs.declared.clash.Emitted.{Emitted}
-use Rattle.oxt_enum_checks.specs.declared.sought.Block.{Block}
+use Rattle.oxt_enum_checks.specs.declared.blocks.Block.{Block}
 use Rattle.oxt_enum_checks.specs.declared.sought.Sought.TheVariants as sought
 use Rattle.oxt_enum_checks.specs.declared.places.Place.{Place}
 use Rattle.oxt_enum_checks.specs.declared.sort.Sort.{Sort}
@@ -64,11 +65,11 @@ clash_of s p b = clash_among p (declarations_of (declared_symbol s b.name.0))
 abbrev pub least_clash : Scoped → Placed → List Block → Option ℕ
 least_clash s p bs = fold (λ o b. lesser o (clash_of s p b)) None bs
 
--- the same of the first blocks of all symbols
-abbrev pub clash_by : Placed → Scoped → Doc → Option ℕ
-clash_by p s d = least_clash s p (sought_blocks p sought.Block s d)
+-- the same of those of these blocks that are the first of their symbols
+abbrev pub clash_by : Placed → Scoped → List Block → Option ℕ
+clash_by p s bs = least_clash s p (sought_blocks p sought.Block s bs)
 
 -- The least of the first clashes of all symbols of which a block emits code: each is looked at by its
 -- first block that does.
 abbrev pub first_clash : Scoped → Doc → Option ℕ
-first_clash s d = clash_by (places_of d) s d
+first_clash s d = clash_by (places_of d) s (blocks_of d)

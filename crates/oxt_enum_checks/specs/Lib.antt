@@ -1,4 +1,5 @@
 pub mod Around
+pub mod Blocks
 pub mod Clash
 pub mod First
 pub mod Keys

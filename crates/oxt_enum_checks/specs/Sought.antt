@@ -1,26 +1,18 @@
 -- The first blocks of symbols, of those declarations that are sought.
-use Rattle.std.specs.Prelude.{◌≡◌, ℕ, List, [], map, find, Bool, true, false, ◌&&◌, ◌||◌, nat_eq, if◌then◌else◌, Option, None, Some, option_map, is_some, slice_get, slice_index_or, codes}
+use Rattle.std.specs.Prelude.{◌≡◌, ℕ, List, [], map, filter, find, Bool, true, false, ◌&&◌, ◌||◌, nat_eq, Option, None, Some, option_map, is_some, slice_get, slice_index_or}
 use Rattle.std.specs.List.{list_any}
 use Rattle.std.specs.Map.{lookup}
 use Rattle.std.specs.Option.{option_eq}
 use Rattle.oxt_enum_checks.specs.Places.{Placed}
 use Rattle.oxt_enum_checks.specs.Sort.{is_block, sort_of}
-use Rattle.oxt_enum_checks.specs.declared.sought.Block.{Block}
+use Rattle.oxt_enum_checks.specs.declared.blocks.Block.{Block}
 use Rattle.oxt_enum_checks.specs.declared.sought.Sought.{Sought}
 use Rattle.oxt_enum_checks.specs.declared.sought.Sought.TheVariants as sought
 use Rattle.oxt_scoping.specs.Entries.{SymbolData}
 use Rattle.oxt_scoping.specs.Scoped.{Scoped}
 use Rattle.oxt_scoping.specs.declared.entry.Redeclaration.{Redeclaration}
-use Rattle.oxt_search.specs.All.{all_in}
-use Rattle.oxt_search.specs.Sought.{Sought as Search}
-use Rattle.oxt_tree.specs.declared.inside.Inside.TheVariants as inside
 use Rattle.oxt_names.specs.declared.flags.SymbolFlags.{SymbolFlags}
 use Rattle.oxt_names.specs.declared.ids.SymbolId.{SymbolId}
-use Rattle.oxt_grammar.specs.Places.{same_kind}
-use Rattle.oxt_grammar.specs.declared.kind.Kind.{Kind}
-use Rattle.oxt_grammar.specs.declared.kind.Kind.TheVariants as kind
-use Rattle.oxt_tree.specs.Doc.{Doc, node, Docs}
-use Rattle.oxt_tree.specs.Fields.{named}
 
 -- The declaration emits code. The name of a function expression, which no declaration declares, does not
 -- count: what the function declares by that name hides it.
@@ -53,39 +45,13 @@ first_at ns (Some i) = slice_index_or ns i.0 None
 abbrev pub is_first : Scoped → List (Option ℕ) → ℕ → Bool
 is_first s ns n = option_eq nat_eq (first_at ns (lookup (nat_eq n) s.declared)) (Some n)
 
--- the block, where that is so
-abbrev pub block_if : Bool → ℕ → ℕ → Option Block
-block_if b i n = if b then Some (record { node = record { 0 = i }; name = record { 0 = n } }) else None
+-- those of the blocks whose names the list has for their symbols
+abbrev pub firsts_among : Scoped → List (Option ℕ) → List Block → List Block
+firsts_among s ns bs = filter (λ b. is_first s ns b.name.0) bs
 
--- the block of that number and with that name, if the list has the name
-abbrev pub block_named : Scoped → List (Option ℕ) → ℕ → Doc → Option Block
-block_named s ns i (node k n b e ds) = block_if (is_first s ns n) i n
-block_named s ns i d = None
-
--- the kinds of blocks
-abbrev pub is_block_kind : Kind → Bool
-is_block_kind k = same_kind k kind.TSEnumDeclaration || same_kind k kind.TSNamespaceDeclaration
-
--- the node, if it is such a block
-abbrev pub own_block : Scoped → List (Option ℕ) → Kind → ℕ → Docs → Option Block
-own_block s ns k i ds = if is_block_kind k then block_named s ns i (named (codes "id") k ds) else None
-
--- each block whose name the list has for its symbol
-abbrev pub named_blocks : Scoped → List (Option ℕ) → Search (Unit {0}) Block
-named_blocks s ns =
-    record {
-      at = λ u k i ds. own_block s ns k i ds;
-      inside = λ u k i ds. inside.Alike u;
-      in_field = λ u k r. Some u;
-    }
-
--- those of a document, in the order of the text
-abbrev pub blocks_in : Scoped → List (Option ℕ) → Doc → List Block
-blocks_in s ns d = all_in (named_blocks s ns) d tt
-
--- the blocks that are the first of their symbols' declarations that are sought
-abbrev pub sought_blocks : Placed → Sought → Scoped → Doc → List Block
-sought_blocks p o s d = blocks_in s (first_names p o s.symbols) d
+-- those of the blocks that are the first of their symbols' declarations that are sought
+abbrev pub sought_blocks : Placed → Sought → Scoped → List Block → List Block
+sought_blocks p o s bs = firsts_among s (first_names p o s.symbols) bs
 
 -- the declaration is a block that emits code
 abbrev pub is_emitting_block : Redeclaration → Bool

@@ -7,9 +7,9 @@ ghost use Rattle.oxt_enum_checks.specs.Sought.{declarations_of, declared_symbol}
 ghost use Rattle.oxt_enum_checks.specs.Places.{places_in};
 ghost use Rattle.oxt_enum_checks.specs.Sort.{is_block};
 
+use crate::blocks::Block;
 use crate::places::{Place, Places};
 use crate::sort::{Sort, is_base, is_block, is_namespace, sort_of};
-use crate::sought::Block;
 use oxt_names::ids::{NodeId, OutOfMemory};
 use oxt_scoping::entry::Redeclaration;
 use oxt_scoping::scoping::Scoping;

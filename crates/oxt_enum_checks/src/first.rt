@@ -2,33 +2,31 @@
 ghost use Rattle.std.specs.Prelude.{◌≡◌, IfOk, map};
 ghost use Rattle.oxt_enum_checks.specs.First.{first_by};
 ghost use Rattle.oxt_enum_checks.specs.Places.{places_in};
-ghost use Rattle.oxt_tree.specs.View.{node_doc};
 
+use crate::blocks::Block;
 use crate::places::Places;
-use crate::sought::{Block, Sought, sought_blocks};
+use crate::sought::{Sought, sought_blocks};
 use oxt_names::ids::{NodeId, OutOfMemory};
 use oxt_scoping::scoping::Scoping;
-use oxt_tree::tree::Node;
 use std::alloc::Global;
 
-/// The numbers of the blocks of enums and namespaces that emit code and before which no declaration
-/// of their name in their scope does, in the order of the text. `scoping` is the table of the program, and `places` are the
-/// declarations of its names.
+/// The numbers of those of the blocks that emit code and before which no declaration of their name in their scope does, in
+/// their order. `scoping` is the table of the program, and `places` are the declarations of its names.
 ///
 /// # Errors
 ///
 /// Nothing but want of memory.
 pub fn first_blocks(
     alloc: Global,
-    program: &Node,
+    blocks: &[Block],
     scoping: &Scoping,
     places: &Places,
 ) -> Result<Vec<NodeId>, OutOfMemory>
     ensures { IfOk result (λ nodes. map (λ node. node.0) nodes.items
-        ≡ first_by (places_in places.now) scoping.now (node_doc program.now)) }
+        ≡ first_by (places_in places.now) scoping.now blocks.now) }
 {
-    let blocks = sought_blocks(alloc, program, scoping, places, Sought::Any)?;
-    nodes_of(alloc, blocks.as_slice())
+    let first = sought_blocks(alloc, blocks, scoping, places, Sought::Any)?;
+    nodes_of(alloc, first.as_slice())
 }
 
 /// The nodes that are the blocks.

@@ -3,10 +3,10 @@ ghost use Rattle.std.specs.Prelude.{◌≡◌, IfOk, false, option_map};
 ghost use Rattle.oxt_enum_checks.specs.LateBase.{late_among, late_from, least_late};
 ghost use Rattle.oxt_enum_checks.specs.Places.{places_in};
 
+use crate::blocks::Block;
 use crate::clash::{Emitted, all_emitted, declarations_by, lesser};
 use crate::places::Places;
 use crate::sort::{is_base, is_namespace};
-use crate::sought::Block;
 use oxt_names::ids::{NodeId, OutOfMemory};
 use oxt_scoping::entry::Redeclaration;
 use oxt_scoping::scoping::Scoping;

@@ -3,6 +3,7 @@
 #![tactic(auto)]
 
 mod around;
+pub mod blocks;
 mod clash;
 pub mod first;
 mod late_base;

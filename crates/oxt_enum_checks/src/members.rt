@@ -12,8 +12,9 @@ use oxt_grammar::kind::Kind;
 use oxt_names::ids::{NodeId, OutOfMemory, SymbolId};
 use oxt_names::name::Name;
 use oxt_scoping::scoping::Scoping;
-use oxt_search::all::all_in;
 use oxt_search::search::{Inside, Search, Visit};
+use oxt_sites::all::all_at_sites;
+use oxt_sites::sites::EnumSites;
 use oxt_tree::tree::Node;
 use std::alloc::Global;
 
@@ -28,24 +29,25 @@ pub struct EnumMember<'a> {
     pub name: &'a Name,
 }
 
-/// The members of the enums of the program, in the order of the text, outside what is erased. Under `legacy` the
-/// decorators of a field with `declare` are not erased.
+/// The members of the enums of the program in which these are the outermost ones, in the order of the text, outside what is
+/// erased.
 ///
 /// # Errors
 ///
 /// Fails only where memory runs out.
 pub fn members_of<'a>(
     alloc: Global,
-    program: &Node,
+    sites: &EnumSites,
     scoping: &'a Scoping,
-    legacy: bool,
 ) -> Result<Vec<EnumMember<'a>>, OutOfMemory>
-    ensures { IfOk result (λ v. member_views v.items ≡ members_of legacy scoping.now (node_doc program.now)) }
+    ensures { IfOk result (λ v. member_views v.items
+        ≡ members_of sites.now.legacy scoping.now (node_doc sites.now.program.now)) }
 {
     if !has_members(scoping) {
         return Ok(Vec::new(alloc));
     }
-    all_in(alloc, &Members { scoping, legacy }, program, None)
+    let legacy = sites.legacy;
+    all_at_sites(alloc, sites, &Members { scoping, legacy }, None)
 }
 
 /// The search for such members. What is handed down is the symbol of the enum around.

@@ -3,15 +3,14 @@ ghost use Rattle.std.specs.Prelude.{◌≡◌, IfOk, option_map};
 ghost use Rattle.oxt_enum_checks.specs.Clash.{clash_by, least_clash};
 ghost use Rattle.oxt_enum_checks.specs.LateBase.{late_by, least_late};
 ghost use Rattle.oxt_enum_checks.specs.Places.{places_in};
-ghost use Rattle.oxt_tree.specs.View.{node_doc};
 
+use crate::blocks::Block;
 use crate::clash::least_clash;
 use crate::late_base::least_late;
 use crate::places::Places;
-use crate::sought::{Block, Sought, has_blocks, sought_blocks};
+use crate::sought::{Sought, has_blocks, sought_blocks};
 use oxt_names::ids::{NodeId, OutOfMemory};
 use oxt_scoping::scoping::Scoping;
-use oxt_tree::tree::Node;
 use std::alloc::Global;
 
 /// Declarations that do not go with an earlier one of their name: of each kind the one of the least number.
@@ -23,21 +22,22 @@ pub struct MergeFaults {
     pub clash: Option<NodeId>,
 }
 
-/// Those of the program, whose table of scopes is `scoping` and of whose names `places` are the declarations.
+/// Those of the names of these blocks of a program, whose table of scopes is `scoping` and of whose names `places` are the
+/// declarations.
 ///
 /// # Errors
 ///
 /// Nothing but want of memory.
 pub fn merge_faults(
     alloc: Global,
-    program: &Node,
+    blocks: &[Block],
     scoping: &Scoping,
     places: &Places,
 ) -> Result<MergeFaults, OutOfMemory>
     ensures late_base { IfOk result (λ faults. option_map (λ node. node.0) faults.late_base
-        ≡ late_by (places_in places.now) scoping.now (node_doc program.now)) }
+        ≡ late_by (places_in places.now) scoping.now blocks.now) }
     ensures clash { IfOk result (λ faults. option_map (λ node. node.0) faults.clash
-        ≡ clash_by (places_in places.now) scoping.now (node_doc program.now)) }
+        ≡ clash_by (places_in places.now) scoping.now blocks.now) }
 {
     if !has_blocks(scoping) {
         return Ok(MergeFaults {
@@ -45,8 +45,8 @@ pub fn merge_faults(
             clash: None,
         });
     }
-    let blocks = sought_blocks(alloc, program, scoping, places, Sought::Block)?;
-    faults_of(alloc, scoping, places, blocks.as_slice())
+    let first = sought_blocks(alloc, blocks, scoping, places, Sought::Block)?;
+    faults_of(alloc, scoping, places, first.as_slice())
 }
 
 /// Those of the names of these blocks.

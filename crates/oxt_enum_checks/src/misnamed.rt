@@ -8,27 +8,26 @@ use crate::members::members_of;
 use crate::repeated::first_repeated;
 use oxt_names::ids::{NodeId, OutOfMemory};
 use oxt_scoping::scoping::Scoping;
-use oxt_tree::tree::Node;
+use oxt_sites::sites::EnumSites;
 use std::alloc::Global;
 
 /// The least number of a node, outside what is erased, that is a member with the name of its enum or of a member
 /// that stands earlier in the enum, or a bare name that means a member and is written or names an element of JSX, of which
-/// `misused` is the first. Under `legacy` the decorators of a field with `declare` are not erased.
+/// `misused` is the first, of the program in which these are the outermost enums.
 ///
 /// # Errors
 ///
 /// Fails only where memory runs out.
 pub fn first_misnamed(
     alloc: Global,
-    program: &Node,
+    sites: &EnumSites,
     scoping: &Scoping,
-    legacy: bool,
     misused: Option<NodeId>,
 ) -> Result<Option<NodeId>, OutOfMemory>
     ensures { IfOk result
-        (λ found. number_at found ≡ misnamed_beside legacy scoping.now (node_doc program.now) (number_at misused)) }
+        (λ found. number_at found ≡ misnamed_beside sites.now.legacy scoping.now (node_doc sites.now.program.now) (number_at misused)) }
 {
-    let members = members_of(alloc, program, scoping, legacy)?;
+    let members = members_of(alloc, sites, scoping)?;
     let repeated = first_repeated(alloc, members.as_slice())?;
     Ok(lesser(repeated, misused))
 }

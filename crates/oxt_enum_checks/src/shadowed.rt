@@ -1,9 +1,10 @@
 //! The first bare name of a member at which the name of its enum means something else.
-ghost use Rattle.std.specs.Prelude.{◌≡◌, ◌++◌, IfOk, OnOk, codes, map, option_map, slice_get};
+ghost use Rattle.std.specs.Prelude.{◌≡◌, ◌++◌, IfOk, None, OnOk, codes, map, option_map, slice_get};
 ghost use Rattle.oxt_enum_checks.specs.Around.{around_view};
 ghost use Rattle.oxt_enum_checks.specs.Shadows.{all_among, all_at, all_shadows, initializer_shadows, least, left_all, lesser, member_shadows, shadow_view, shadow_views, shadowed};
 ghost use Rattle.oxt_grammar.specs.Field.{row_view};
 ghost use Rattle.oxt_grammar.specs.Rows.{row_of};
+ghost use Rattle.oxt_sites.specs.Sites.{said_of_each};
 ghost use Rattle.oxt_tree.specs.View.{doc_of_part, doc_or_nil, docs_in, node_doc, part_doc};
 
 use crate::around::{EnumAround, enum_of, within};
@@ -16,6 +17,7 @@ use oxt_grammar::kind::Kind;
 use oxt_names::ids::{NodeId, OutOfMemory, SymbolId};
 use oxt_names::name::Name;
 use oxt_scoping::scoping::Scoping;
+use oxt_sites::sites::EnumSites;
 use oxt_tree::fields::place_of;
 use oxt_tree::tree::{Node, Part};
 use std::alloc::Global;
@@ -30,26 +32,43 @@ pub struct ShadowedName<'a> {
 }
 
 /// The bare name of the least number, outside what is erased and outside types, that stands in an initializer of
-/// an enum and means a member of that enum, where the name of the enum means a declaration of the initializer. Under
-/// `legacy` the decorators of a field with `declare` are not erased.
+/// an enum and means a member of that enum, where the name of the enum means a declaration of the initializer. `sites` are the
+/// outermost enums of the program.
 ///
 /// # Errors
 ///
 /// Fails only where memory runs out.
 pub fn first_shadowed<'a>(
     alloc: Global,
-    program: &'a Node,
+    sites: &EnumSites<'a>,
     scoping: &'a Scoping,
-    legacy: bool,
 ) -> Result<Option<ShadowedName<'a>>, OutOfMemory>
-    ensures { IfOk result (λ found. option_map shadow_view found ≡ shadowed legacy scoping.now (node_doc program.now)) }
+    ensures { IfOk result (λ found. option_map shadow_view found
+        ≡ shadowed sites.now.legacy scoping.now (node_doc sites.now.program.now)) }
 {
     if !has_members(scoping) {
         return Ok(None);
     }
-    let mut out = Vec::new(alloc);
-    push_node(alloc, scoping, legacy, program, None, &mut out)?;
-    Ok(least(out.as_slice()))
+    let names = shadowed_at(alloc, sites.as_slice(), scoping, sites.legacy)?;
+    Ok(least(names.as_slice()))
+}
+
+/// Such names in the initializers in these nodes, of which none stands in an enum.
+#[tactic(auto, using(crate::proofs::ShadowSites::site_steps))]
+fn shadowed_at<'a>(
+    alloc: Global,
+    sites: &[&'a Node],
+    scoping: &'a Scoping,
+    legacy: bool,
+) -> Result<Vec<ShadowedName<'a>>, OutOfMemory>
+    ensures { IfOk result (λ names. shadow_views names.items
+        ≡ said_of_each (λ d. all_shadows legacy scoping.now d None) (map (λ site. node_doc site.now) sites.now)) }
+{
+    let mut names = Vec::new(alloc);
+    for i in 0..sites.len() {
+        push_node(alloc, scoping, legacy, sites[i], None, &mut names)?;
+    }
+    Ok(names)
 }
 
 /// The one of the least number.

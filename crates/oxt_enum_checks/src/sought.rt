@@ -1,33 +1,17 @@
 //! The first blocks of symbols, of those declarations that are sought.
 ghost use Rattle.std.specs.Prelude.{◌≡◌, ◌<◌, IfOk, Some, false, length, option_map, slice_get};
 ghost use Rattle.std.specs.List.{list_any};
-ghost use Rattle.oxt_enum_checks.specs.Sought.{HasNoBlock, block_if, block_named, blocks_in, emits, first_at, first_name, first_names, fits, has_block, is_block_kind, is_emitting_block, is_first, is_sought, named_blocks, own_block, sought_blocks};
+ghost use Rattle.oxt_enum_checks.specs.Sought.{HasNoBlock, emits, first_at, first_name, first_names, firsts_among, fits, has_block, is_emitting_block, is_first, is_sought, sought_blocks};
 ghost use Rattle.oxt_enum_checks.specs.Places.{places_in};
-ghost use Rattle.oxt_enum_checks.specs.declared.sought.Block.{Block};
-ghost use Rattle.oxt_tree.specs.View.{doc_or_nil, docs_in, node_doc};
 
+use crate::blocks::Block;
 use crate::places::Places;
 use crate::sort::{is_block, sort_of};
-use oxt_grammar::field::Field;
-use oxt_grammar::holds::Row;
-use oxt_grammar::kind::Kind;
 use oxt_names::flags::SymbolFlags;
 use oxt_names::ids::{NodeId, OutOfMemory, SymbolId};
 use oxt_scoping::entry::Redeclaration;
 use oxt_scoping::scoping::Scoping;
-use oxt_search::all::all_in;
-use oxt_search::search::{Inside, Search, Visit};
-use oxt_tree::tree::{Node, Part};
 use std::alloc::Global;
-
-/// A block of an enum or a namespace.
-#[derive(Clone, Copy)]
-pub struct Block {
-    /// The node.
-    pub node: NodeId,
-    /// The node that is its name.
-    pub name: NodeId,
-}
 
 /// Which declarations are looked for.
 #[derive(Clone, Copy)]
@@ -38,20 +22,20 @@ pub enum Sought {
     Block,
 }
 
-/// The blocks that are the first of their symbols' declarations that are sought, in the order of the
-/// text. `places` are the declarations of the names of the program.
+/// Those of the blocks that are the first of their symbols' declarations that are sought. `places` are the declarations of the
+/// names of the program.
 pub fn sought_blocks(
     alloc: Global,
-    program: &Node,
+    blocks: &[Block],
     scoping: &Scoping,
     places: &Places,
     sought: Sought,
 ) -> Result<Vec<Block>, OutOfMemory>
-    ensures { IfOk result (λ blocks. blocks.items
-        ≡ sought_blocks (places_in places.now) sought scoping.now (node_doc program.now)) }
+    ensures { IfOk result (λ found. found.items
+        ≡ sought_blocks (places_in places.now) sought scoping.now blocks.now) }
 {
     let firsts = first_names(alloc, scoping, places, sought)?;
-    blocks_of(alloc, program, scoping, firsts.as_slice())
+    firsts_among(alloc, scoping, firsts.as_slice(), blocks)
 }
 
 /// Of each symbol the number of the name by which the first declaration that is sought declares it.
@@ -120,96 +104,22 @@ fn fits(sought: Sought, flags: SymbolFlags) -> bool
     }
 }
 
-/// The blocks whose names `firsts` has for their symbols, in the order of the text.
-#[tactic(auto, using(oxt_search::proofs::Given::as_it_is))]
-fn blocks_of(
+/// Those of the blocks whose names `firsts` has for their symbols.
+fn firsts_among(
     alloc: Global,
-    program: &Node,
     scoping: &Scoping,
     firsts: &[Option<u64>],
+    blocks: &[Block],
 ) -> Result<Vec<Block>, OutOfMemory>
-    ensures { IfOk result (λ blocks. blocks.items
-        ≡ blocks_in scoping.now firsts.now (node_doc program.now)) }
+    ensures { IfOk result (λ found. found.items ≡ firsts_among scoping.now firsts.now blocks.now) }
 {
-    all_in(alloc, &Blocks { scoping, firsts }, program, ())
-}
-
-/// The search for such blocks.
-#[derive(Clone, Copy)]
-struct Blocks<'a> {
-    /// What the names declare.
-    scoping: &'a Scoping,
-    /// The name that is sought of each symbol.
-    firsts: &'a [Option<u64>],
-}
-
-impl<'a> Search for Blocks<'a> {
-    type State = ();
-
-    type Found = Block;
-
-    ghost Seen = { Block };
-
-    ghost view = { λ block. block };
-
-    ghost sought = { λ blocks. named_blocks blocks.scoping.now blocks.firsts.now };
-
-    #[tactic(auto, using(oxt_search::proofs::Given::as_it_is))]
-    fn visit(&self, node: &Node, _state: ()) -> Visit<Block, ()> {
-        Visit {
-            found: own_block(self.scoping, self.firsts, node),
-            inside: Inside::Alike(()),
-        }
-    }
-
-    fn in_field(&self, _state: (), _kind: Kind, _row: &Row) -> Option<()> {
-        Some(())
-    }
-}
-
-/// The node, if it is such a block.
-fn own_block(scoping: &Scoping, firsts: &[Option<u64>], node: &Node) -> Option<Block>
-    ensures { result
-        ≡ own_block scoping.now firsts.now node.now.kind node.now.id.0 (docs_in node.now.parts.items) }
-{
-    if is_block_kind(node.kind) {
-        block_named(scoping, firsts, node.id, node.field(Field::Id))
-    } else {
-        None
-    }
-}
-
-/// Whether nodes of the kind are blocks.
-fn is_block_kind(kind: Kind) -> bool
-    ensures { result ≡ is_block_kind kind }
-{
-    kind.is(Kind::TSEnumDeclaration) || kind.is(Kind::TSNamespaceDeclaration)
-}
-
-/// The block with that name, if `firsts` has the name.
-fn block_named(
-    scoping: &Scoping,
-    firsts: &[Option<u64>],
-    node: NodeId,
-    name: Option<&Part>,
-) -> Option<Block>
-    ensures { result ≡ block_named scoping.now firsts.now node.0 (doc_or_nil name.entry) }
-{
-    match name {
-        Some(Part::Node(name)) => block_if(is_first(scoping, firsts, name.id), node, name.id),
-        _ => None,
-    }
-}
-
-/// The block, where that is so.
-fn block_if(is_first: bool, node: NodeId, name: NodeId) -> Option<Block>
-    ensures { result ≡ block_if is_first node.0 name.0 }
-{
-    if is_first {
-        Some(Block { node, name })
-    } else {
-        None
-    }
+    Ok(
+        blocks
+            .iter()
+            .copied()
+            .filter(|block| is_first(scoping, firsts, block.name))
+            .collect(alloc)?,
+    )
 }
 
 /// Whether `firsts` has the name for the symbol that it declares.

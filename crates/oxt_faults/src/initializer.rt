@@ -11,28 +11,32 @@ use oxt_grammar::holds::Row;
 use oxt_grammar::kind::Kind;
 use oxt_names::ids::{NodeId, OutOfMemory};
 use oxt_scoping::scoping::Scoping;
-use oxt_search::all::all_in;
 use oxt_search::search::{Inside, Search, Visit};
+use oxt_sites::all::all_at_sites;
+use oxt_sites::sites::EnumSites;
 use oxt_tree::tree::Node;
 use std::alloc::Global;
 
 /// The word of the least number, outside what is erased, that stands at the level of the initializer of a member of an
-/// enum that has no constant: the initializer goes into a function, where the word would mean something else. `legacy` says
-/// that decorators have their older meaning.
+/// enum that has no constant: the initializer goes into a function, where the word would mean something else. The sites are
+/// the enums of the program, and say whether decorators have their older meaning.
 ///
 /// # Errors
 ///
 /// Fails only where memory runs out.
 pub fn first_initializer_word(
     alloc: Global,
-    legacy: bool,
-    program: &Node,
+    sites: &EnumSites,
     scoping: &Scoping,
 ) -> Result<Option<FoundWord>, OutOfMemory>
     ensures { IfOk result (λ found. option_map found_view found
-        ≡ initializer_word legacy scoping.now (node_doc program.now)) }
+        ≡ initializer_word sites.now.legacy scoping.now (node_doc sites.now.program.now)) }
 {
-    let words = all_in(alloc, &Initializers { legacy, scoping }, program, ())?;
+    let search = Initializers {
+        legacy: sites.legacy,
+        scoping,
+    };
+    let words = all_at_sites(alloc, sites, &search, ())?;
     Ok(least(words.as_slice()))
 }
 

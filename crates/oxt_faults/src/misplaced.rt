@@ -1,18 +1,18 @@
 //! The first node that stands where it may not.
 //!
 //! One search answers for all kinds that a node and those around it decide. One more such refusal is a test of the node
-//! at whose place it is answered: a variant of `MisplacedKind`, its place in the list `misplaced_kinds`, and its arm in
-//! `is_misplaced`, in `rules` and with the same names in specs/Misplaced.antt; its word on the line of standard error is
-//! in `kind_text` of `oxt_check`. What the test has to know of the nodes around is handed down in the state of the
-//! search, `Seat`. `Merge` and `Enum`, and a function or a class behind a namespace of its name, which the table of names
-//! decides, are found by `oxt_enum_checks`; `Super`, `Key` and `Field`, which a class decides as a whole, by
-//! `oxt_class_checks`.
+//! at whose place it is answered: a variant of `MisplacedKind`, its place in the chain of `kind_at`, and its test in
+//! `rules`, with the same names in specs/Misplaced.antt, where `misplaced_kinds` is the order of the chain and
+//! `is_misplaced` names the tests; its word on the line of standard error is in `kind_text` of `oxt_check`. What the test
+//! has to know of the nodes around is handed down in the state of the search, `Seat`. `Merge` and `Enum`, and a function
+//! or a class behind a namespace of its name, which the table of names decides, are found by `oxt_enum_checks`; `Super`,
+//! `Key` and `Field`, which a class decides as a whole, by `oxt_class_checks`.
 ghost use Rattle.std.specs.Prelude.{◌≡◌, find, option_map};
 ghost use Rattle.oxt_faults.specs.Misplaced.{Misplacement, is_misplaced, misplaced, misplaced_at, misplaced_kinds, misplaced_view, sought};
 ghost use Rattle.oxt_fields.specs.Rules.{rules_view};
 ghost use Rattle.oxt_tree.specs.View.{docs_in, node_doc};
 
-use crate::rules::{is_misplaced, misplaced_kinds};
+use crate::rules::{is_misplaced_body, is_misplaced_decorator, is_misplaced_item};
 use crate::seat::{Seat, dropped_seat, seat_in, seat_inside};
 use oxt_declares::dropped::{inside_dropped, is_dropped};
 use oxt_fields::rules::FieldRules;
@@ -118,8 +118,13 @@ fn kind_at(rules: FieldRules, seat: Seat, node: &Node) -> Option<MisplacedKind>
     ensures { result
         ≡ find (is_misplaced (rules_view rules.entry) seat node.now.kind (docs_in node.now.parts.items)) misplaced_kinds }
 {
-    misplaced_kinds()
-        .iter()
-        .copied()
-        .find(|kind| is_misplaced(rules, *kind, seat, node))
+    if is_misplaced_body(seat, node) {
+        Some(MisplacedKind::Body)
+    } else if is_misplaced_item(seat, node) {
+        Some(MisplacedKind::Namespace)
+    } else if is_misplaced_decorator(rules, seat, node) {
+        Some(MisplacedKind::Decorator)
+    } else {
+        None
+    }
 }

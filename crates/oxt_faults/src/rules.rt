@@ -1,13 +1,12 @@
 //! Which nodes may not stand in a seat.
 ghost use Rattle.std.specs.Prelude.{◌≡◌, is_some};
 ghost use Rattle.std.specs.List.{list_any};
-ghost use Rattle.oxt_faults.specs.Misplaced.{is_alias_name, is_alias_target, is_declared_variable, is_emitting_namespace, is_misplaced, is_misplaced_body, is_misplaced_decorator, is_misplaced_item, is_module_statement, is_statement_list, is_typescript_declaration, list_kinds, misplaced_kinds, module_kinds};
+ghost use Rattle.oxt_faults.specs.Misplaced.{is_alias_name, is_alias_target, is_declared_variable, is_emitting_namespace, is_misplaced_body, is_misplaced_decorator, is_misplaced_item, is_module_statement, is_statement_list, is_typescript_declaration, list_kinds, module_kinds};
 ghost use Rattle.oxt_grammar.specs.Places.{same_kind};
 ghost use Rattle.oxt_faults.specs.PrivateIns.{holds_private_in};
 ghost use Rattle.oxt_fields.specs.Rules.{rules_view};
 ghost use Rattle.oxt_tree.specs.View.{doc_or_nil, docs_in};
 
-use crate::misplaced::MisplacedKind;
 use crate::private_in::holds_private_in;
 use crate::seat::Seat;
 use oxt_declares::dropped::is_dropped;
@@ -19,38 +18,8 @@ use oxt_grammar::kind::Kind;
 use oxt_names::ids::NodeId;
 use oxt_tree::tree::{Node, Part};
 
-/// The kinds in which a node may be misplaced by what stands around it, in the order in which they are answered.
-pub fn misplaced_kinds() -> &'static [MisplacedKind]
-    ensures { result.now ≡ misplaced_kinds }
-{
-    &[
-        MisplacedKind::Body,
-        MisplacedKind::Namespace,
-        MisplacedKind::Decorator,
-    ]
-}
-
-/// Whether the node is misplaced in that seat, by kind; never in a kind that the table of names or a class as a whole
-/// decides.
-pub fn is_misplaced(rules: FieldRules, kind: MisplacedKind, seat: Seat, node: &Node) -> bool
-    ensures { result
-        ≡ is_misplaced (rules_view rules.entry) seat node.now.kind (docs_in node.now.parts.items) kind }
-{
-    match kind {
-        MisplacedKind::Body => is_misplaced_body(seat, node),
-        MisplacedKind::Namespace => is_misplaced_item(seat, node),
-        MisplacedKind::Decorator => is_misplaced_decorator(rules, seat, node),
-        MisplacedKind::Merge => false,
-        MisplacedKind::Enum => false,
-        MisplacedKind::Super => false,
-        MisplacedKind::Key => false,
-        MisplacedKind::Field => false,
-        MisplacedKind::Accessor => false,
-    }
-}
-
 /// Whether the node may not stand as the only statement there, or in the head of a `for`.
-fn is_misplaced_body(seat: Seat, node: &Node) -> bool
+pub fn is_misplaced_body(seat: Seat, node: &Node) -> bool
     ensures { result ≡ is_misplaced_body seat node.now.kind (docs_in node.now.parts.items) }
 {
     match seat {
@@ -63,7 +32,7 @@ fn is_misplaced_body(seat: Seat, node: &Node) -> bool
 
 /// Whether the node is a namespace or an `import =` that stands neither in the program nor in a namespace directly, or an
 /// import or an export that stands in a namespace.
-fn is_misplaced_item(seat: Seat, node: &Node) -> bool
+pub fn is_misplaced_item(seat: Seat, node: &Node) -> bool
     ensures { result ≡ is_misplaced_item seat node.now.kind (docs_in node.now.parts.items) }
 {
     match seat {
@@ -112,7 +81,7 @@ fn module_kinds() -> &'static [Kind]
 /// decorated class. Where decorators are the standard ones, parameters have none; where they have their older meaning, class
 /// expressions and their elements, constructors and all parameters but those of methods of class declarations have none, and a
 /// decorator of a parameter of a constructor holds no private `in`.
-fn is_misplaced_decorator(rules: FieldRules, seat: Seat, node: &Node) -> bool
+pub fn is_misplaced_decorator(rules: FieldRules, seat: Seat, node: &Node) -> bool
     ensures { result
         ≡ is_misplaced_decorator (rules_view rules.entry) seat node.now.kind (docs_in node.now.parts.items) }
 {

@@ -1,4 +1,6 @@
 pub mod Appends
+pub mod Bare
+pub mod Lookups
 pub mod Numbers
 pub mod OwnerLoops
 pub mod ScopeLoops

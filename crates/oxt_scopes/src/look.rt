@@ -1,13 +1,19 @@
 //! What names mean.
-ghost use Rattle.std.specs.Prelude.{◌≡◌};
+ghost use Rattle.std.specs.Prelude.{◌≡◌, option_map};
+ghost use Rattle.std.specs.Map.Iter.{deref_pair};
 ghost use Rattle.oxt_scopes.specs.Owners.{meaning};
 ghost use Rattle.oxt_scopes.specs.Scopes.{beside, look, look_in_signature};
-ghost use Rattle.oxt_scopes.specs.Stack.{block_at, level_of, levels, name_in, number_at, seen_at, shows_seen};
+ghost use Rattle.oxt_scopes.specs.Stack.{block_at, level_of, levels, name_in, number_at, seen_as, seen_at, shows_seen};
 
-use crate::scope::Scope;
+use crate::scope::{Scope, Seen};
 use crate::way::Way;
+use indexmap::IndexMap;
 use oxt_declares::declaration::Sight;
 use oxt_names::ids::NodeId;
+
+/// How many names a scope has at most that are compared one after the other; of more, the name is hashed, which costs as much
+/// as some eight comparisons.
+const FEW_NAMES: usize = 8;
 
 /// What the name means that is read that way in the last of the scopes: the number of the node that
 /// opens the scope of its group; none where it is free.
@@ -65,7 +71,7 @@ impl<'a> Scope<'a> {
     fn shows(&self, sight: Sight, name: &str) -> bool
         ensures { result ≡ shows_seen sight (seen_at name.now self.now.names.entries) }
     {
-        match self.names.get(name) {
+        match seen_in(&self.names, name) {
             Some(seen) => match sight {
                 Sight::Value => seen.value,
                 Sight::Type => true,
@@ -83,6 +89,41 @@ impl<'a> Scope<'a> {
             Some(number) => Some(*number),
             None => None,
         }
+    }
+}
+
+/// How the name is declared by that table.
+fn seen_in(names: &IndexMap<&str, Seen>, name: &str) -> Option<Seen>
+    ensures { result ≡ seen_at name.now names.now.entries }
+{
+    if names.len() <= FEW_NAMES {
+        seen_among(names, name)
+    } else {
+        names.get(name).copied()
+    }
+}
+
+/// The same, by one entry after the other.
+#[tactic(auto, using(crate::proofs::Lookups::seen_steps))]
+fn seen_among(names: &IndexMap<&str, Seen>, name: &str) -> Option<Seen>
+    ensures { result ≡ seen_at name.now names.now.entries }
+{
+    for i in 0..names.len() {
+        let seen = seen_as(names.get_index(i), name);
+        if seen.is_some() {
+            return seen;
+        }
+    }
+    None
+}
+
+/// How the entry declares the name, if it is one of that name.
+fn seen_as(pair: Option<(&&str, &Seen)>, name: &str) -> Option<Seen>
+    ensures { result ≡ seen_as name.now (option_map deref_pair pair.entry) }
+{
+    match pair {
+        Some((own, seen)) => { if name == *own { Some(*seen) } else { None } }
+        None => None,
     }
 }
 

@@ -2,6 +2,7 @@
 //! declare.
 ghost use Rattle.std.specs.Prelude.{◌≡◌, ◌++◌, ◌∷◌, [], IfOk, List, OnOk, map};
 ghost use Rattle.oxt_grammar.specs.Field.{row_view};
+ghost use Rattle.oxt_grammar.specs.Keys.{key_of};
 ghost use Rattle.oxt_grammar.specs.Rows.{row_of};
 ghost use Rattle.oxt_tree.specs.Fields.{first, text_in};
 ghost use Rattle.oxt_tree.specs.View.{docs_in, node_doc, part_doc};
@@ -12,6 +13,7 @@ ghost use Rattle.oxt_scopes.specs.Owners.{each_owners, field_owners, opened, own
 ghost use Rattle.oxt_scopes.specs.Scopes.{Level};
 ghost use Rattle.oxt_scopes.specs.Stack.{level_of, levels, number_at, scope_numbers};
 ghost use Rattle.oxt_scopes.specs.Views.{opened_views};
+ghost use Rattle.oxt_scopes.specs.Ways.{way_of};
 
 use crate::look::meaning;
 use crate::owners::{OwnedName, reading_of};
@@ -24,6 +26,7 @@ use oxt_declares::declares::{push_declared, text_of};
 use oxt_declares::role::Role;
 use oxt_grammar::holds::Row;
 use oxt_names::ids::{NodeId, OutOfMemory};
+use oxt_search::search::holds_nodes;
 use oxt_tree::tree::{Node, Part};
 use std::alloc::Global;
 
@@ -244,32 +247,37 @@ fn push_fields<'a>(
 {
     for (i, part) in parts.iter().enumerate() {
         match rows.get(i) {
-            Some(row) => push_read(alloc, part, reading.way_of(row), standing, around, out)?,
+            Some(row) => push_read(alloc, part, reading, row, standing, around, out)?,
             None => return Ok(()),
         }
     }
     Ok(())
 }
 
-/// Appends the scopes and names in the part, if it is read.
+/// Appends the scopes and names in the part, a field of that row, if it is read.
 #[cycle(walk)]
+#[tactic(auto, using(crate::proofs::Bare::nothing_in))]
 #[inline(always)]
 fn push_read<'a>(
     alloc: Global,
     part: &'a Part,
-    way: Option<Way>,
+    reading: Reading,
+    row: &Row,
     standing: Standing,
     around: &mut Vec<Scope<'a>>,
     out: &mut Walked<'a>,
 ) -> Result<(), OutOfMemory>
     ensures scopes { OnOk result (opened_views out.new.scopes.items
-        ≡ opened_views out.old.scopes.items ++ read_scopes way (scopes (part_doc part.now)) standing (scope_numbers around.old.items)) }
+        ≡ opened_views out.old.scopes.items ++ read_scopes (way_of reading (key_of row.now.field)) (scopes (part_doc part.now)) standing (scope_numbers around.old.items)) }
     ensures names { OnOk result (owned_views out.new.names.items
-        ≡ owned_views out.old.names.items ++ read_so way (owners (part_doc part.now)) (levels around.old.items)) }
+        ≡ owned_views out.old.names.items ++ read_so (way_of reading (key_of row.now.field)) (owners (part_doc part.now)) (levels around.old.items)) }
     ensures numbers { OnOk result (scope_numbers around.new.items ≡ scope_numbers around.old.items) }
     ensures levels { OnOk result (levels around.new.items ≡ levels around.old.items) }
 {
-    match way {
+    if !holds_nodes(part) {
+        return Ok(());
+    }
+    match reading.way_of(row) {
         Some(way) => push_part(alloc, part, way, standing, around, out),
         None => Ok(()),
     }

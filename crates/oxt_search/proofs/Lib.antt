@@ -3,3 +3,4 @@ pub mod Firsts
 pub mod Given
 pub mod Nothing
 mod Alone
+mod Bare

@@ -6,7 +6,7 @@ ghost use Rattle.oxt_grammar.specs.Keys.{key_of};
 ghost use Rattle.oxt_tree.specs.View.{doc_of_part, docs_in, node_doc, part_doc};
 ghost use Rattle.std.specs.List.{slice_get};
 
-use crate::search::{Inside, Search, Visit};
+use crate::search::{Inside, Search, Visit, holds_nodes};
 use oxt_grammar::field::Field;
 use oxt_grammar::holds::Row;
 use oxt_grammar::kind::Kind;
@@ -146,6 +146,7 @@ fn push_below<S: Search>(
 }
 
 /// Appends what a field of a node of that kind gives, unless it is left out.
+#[tactic(auto, using(crate::proofs::Bare::all_of_bare))]
 #[cycle(all)]
 fn push_field<S: Search>(
     search: &S,
@@ -159,6 +160,9 @@ fn push_field<S: Search>(
         ++ given_in (all_in (S.sought search.now) (part_doc part.now))
         ((S.sought search.now).in_field state kind (row_view row.now))) }
 {
+    if !holds_nodes(part) {
+        return Ok(());
+    }
     match search.in_field(state, kind, row) {
         Some(state) => push_part(search, part, state, out),
         None => Ok(()),

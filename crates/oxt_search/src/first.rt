@@ -7,7 +7,7 @@ ghost use Rattle.oxt_grammar.specs.Keys.{key_of};
 ghost use Rattle.oxt_tree.specs.View.{doc_of_part, docs_in, node_doc, part_doc};
 ghost use Rattle.std.specs.List.{slice_get};
 
-use crate::search::{Inside, Search, Visit};
+use crate::search::{Inside, Search, Visit, holds_nodes};
 use oxt_grammar::field::Field;
 use oxt_grammar::holds::Row;
 use oxt_grammar::kind::Kind;
@@ -92,6 +92,7 @@ fn first_below<S: Search>(
 }
 
 /// The first that a field of a node of that kind gives, unless it is left out.
+#[tactic(auto, using(crate::proofs::Bare::first_of_bare))]
 #[cycle(first)]
 fn first_in_field<S: Search>(
     search: &S,
@@ -103,6 +104,9 @@ fn first_in_field<S: Search>(
     ensures { option_map S.view result ≡ first (given_in (all_in (S.sought search.now) (part_doc part.now))
         ((S.sought search.now).in_field state kind (row_view row.now))) }
 {
+    if !holds_nodes(part) {
+        return None;
+    }
     let state = search.in_field(state, kind, row)?;
     first_in_part(search, part, state)
 }

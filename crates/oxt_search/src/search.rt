@@ -4,14 +4,14 @@
 //! Tables that it looks into are its own fields, by reference. Its definition is one record, `sought`; what
 //! `first_in` and `all_in` answer follows from that, so that no search has a recursion or a proof of its own.
 ghost use Rattle.std.specs.Prelude.{◌≡◌, option_map};
-ghost use Rattle.oxt_search.specs.Sought.{Sought};
+ghost use Rattle.oxt_search.specs.Sought.{Sought, holds_nodes};
 ghost use Rattle.oxt_grammar.specs.Field.{row_view};
-ghost use Rattle.oxt_tree.specs.View.{docs_in};
+ghost use Rattle.oxt_tree.specs.View.{docs_in, part_doc};
 
 use oxt_grammar::holds::Row;
 use oxt_grammar::kind::Kind;
 pub use oxt_tree::inside::Inside;
-use oxt_tree::tree::Node;
+use oxt_tree::tree::{Node, Part};
 
 /// What a search says of a node.
 pub struct Visit<F, S> {
@@ -48,4 +48,17 @@ pub trait Search {
     /// the field is left out.
     fn in_field(&self, state: Self::State, kind: Kind, row: &Row) -> Option<Self::State>
         ensures { result ≡ (sought self.now).in_field state kind (row_view row.now) };
+}
+
+/// Whether nodes may stand in the part: whether it is a node or a list. In any other a search finds nothing, so it need not be
+/// asked how it goes on there.
+#[inline(always)]
+pub fn holds_nodes(part: &Part) -> bool
+    ensures { result ≡ holds_nodes (part_doc part.now) }
+{
+    match part {
+        Part::Node(_) => true,
+        Part::List(_) => true,
+        _ => false,
+    }
 }

@@ -97,3 +97,9 @@ declared_below ps es fs n v l v' l' counted same_v same_l first second =
     let le : n ≤ length (docs ps) = omega arith in
     let both = two_inserted (docs ps) (docs es) (docs fs) (option_to_list l) (option_to_list v) n le first second in
     cc
+
+-- both at the top of the statements
+pub declared_at_top : (ps es fs : List Part) (v l v' l' : Option Doc) → v ≡ v' → l ≡ l' → docs es ≡ take 0 (docs ps) ++ (option_to_list l ++ drop 0 (docs ps)) → docs fs ≡ take 0 (docs es) ++ (option_to_list v ++ drop 0 (docs es)) → docs fs ≡ (option_to_list v' ++ option_to_list l') ++ docs ps
+declared_at_top ps es fs v l v' l' same_v same_l first second =
+    let both : docs fs ≡ (option_to_list v ++ option_to_list l) ++ docs ps = two_inserted (docs ps) (docs es) (docs fs) (option_to_list l) (option_to_list v) 0 (omega arith) first second in
+    cc

@@ -67,8 +67,24 @@ fn declare(
     if is_program_body {
         declare_below_imports(statements, declared, ids)
     } else {
-        declared.insert_into_statements(statements, false, ids)
+        declare_at_top(statements, declared, ids)
     }
+}
+
+/// Leaves the innermost list of declarators, and puts them in front of all statements.
+fn declare_at_top(
+    statements: &mut Vec<Part>,
+    declared: &mut VarDeclarationsStore,
+    ids: &mut NodeIds,
+) -> Result<(), OutOfMemory>
+    requires { 0 < length (frames declared.old) }
+    ensures declared { OnOk result (docs statements.new.items
+        ≡ declarations ids.old.next (top_frame (frames declared.old)) ++ docs statements.old.items) }
+    ensures popped { OnOk result (frames declared.new ≡ below_top (frames declared.old)) }
+{
+    let (by_var, by_let) = declared.get_var_statement(ids)?;
+    insert_at(statements, 0, by_let)?;
+    insert_at(statements, 0, by_var)
 }
 
 /// Leaves the innermost list of declarators, and puts them in front of the first statement that is

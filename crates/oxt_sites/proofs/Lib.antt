@@ -1,0 +1,3 @@
+pub mod Outside
+mod Eaches
+mod Finds

@@ -1,0 +1,3 @@
+pub mod DocSet
+pub mod Quiet
+pub mod Sites
