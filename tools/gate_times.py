@@ -30,7 +30,9 @@ EVERY = 0.5
 CHEAP = 20
 LISTED = 10
 LAST_LINE = re.compile(r"\d+ passed, \d+ failed")
-CYCLE = re.compile(r"#\[cycle\((\w+)\)\]\n(?:\s*#.*\n)*\s*(?:pub(?:\([a-z]+\))? )?fn (\w+)")
+CYCLE = re.compile(r"#\[cycle\((\w+)\)\]\n(?:\s*#.*\n)*\s*(?:pub(?:\([a-z]+\))? )?fn ")
+# What a module of a function is for, behind the function's path.
+MODULE = re.compile(r"Rattle-\w+-proofs\.(\S+?)\.(?:Code|Lts|Tie|Proof|Layout|Named|Reads|Goals|Given|Kinds|Statement|Met)\b")
 PROOF, EDITS, PROGRAMS = "proof", "edits", "programs"
 
 
@@ -150,41 +152,35 @@ def words_for(clone, crates, name, kept):
     for library in below(crates, name, []):
         words += ["-L", f"dependency={rlib[library].parent}"]
     words += ["--antt-project", f"{KIT}/rattle/logic/antt-project.json", "--logic-built", f"{KIT}/logic_built"]
-    return [*words, "--links", f"{name}=", "--jobs", "1", "--progress", "--incremental", kept]
+    return [*words, "--links", f"{name}=", "--jobs", "1", "--incremental", kept]
+
+
+def modules_in(kept):
+    """The modules that a check kept, with the seconds from where the one before was kept. A check by one process, and the copies that it makes of itself,
+    check one module after the other."""
+    files = sorted((file.stat().st_mtime_ns, file.name) for file in kept.rglob("*.oantt"))
+    return [((at - before) / 10**9, name) for (before, _), (at, name) in zip(files, files[1:])]
 
 
 def function_times(clone, crates, name):
-    """The functions of a crate with the seconds from where the prover had ended with the one before until it had ended with each. What it does
-    for others meanwhile is counted too, so what is dear may stand at a neighbour. The first is left out: all that comes before it is counted to it."""
+    """The functions of a crate with the seconds that their modules took: code, way of borrows, and proof."""
+    times = collections.Counter()
     with tempfile.TemporaryDirectory(prefix="oxt-times-") as kept:
-        check = subprocess.Popen(words_for(clone, crates, name, kept), cwd=clone / "crates" / name, stdout=subprocess.PIPE,
-                                 stderr=subprocess.STDOUT, text=True, errors="replace")
-        times, last = [], None
-        for line in check.stdout:
-            if told := re.match(r"checked (\S+), \d+ of \d+", line):
-                now = taken_by(check.pid)
-                if last is not None:
-                    times.append((now - last, told[1]))
-                last = now
-        check.wait()
-    return times
-
-
-def cycles_in(clone, name):
-    """The functions of each cycle of a crate, by their paths; those of a cycle call one another, and have one proof."""
-    cycles = collections.defaultdict(set)
-    source = clone / "crates" / name / "src"
-    for file in source.rglob("*.rt"):
-        path = [name, *file.relative_to(source).with_suffix("").parts]
-        for cycle, function in CYCLE.findall(file.read_text(encoding="utf-8")):
-            cycles[cycle].add("::".join([*path, function]))
-    return cycles
+        subprocess.run(words_for(clone, crates, name, kept), cwd=clone / "crates" / name, stdout=subprocess.DEVNULL, stderr=subprocess.DEVNULL, check=False)
+        for seconds, module in modules_in(pathlib.Path(kept)):
+            if told := MODULE.match(module):
+                times["::".join([name, *told[1].split(".")])] += seconds
+    return [(seconds, function) for function, seconds in times.items()]
 
 
 def shared_by(clone, function):
-    """How many functions share the proof of this one."""
-    cycles = cycles_in(clone, function.partition("::")[0]).values()
-    return next((len(members) for members in cycles if function in members), 1)
+    """How many functions share the proof of this name: those of the cycle, if it names one."""
+    crate, _, path = function.partition("::")
+    cycle = path.rpartition("::")[2]
+    if not cycle.startswith("+"):
+        return 1
+    texts = [file.read_text(encoding="utf-8") for file in (clone / "crates" / crate / "src").rglob("*.rt")]
+    return max(1, sum(found == cycle[1:] for text in texts for found in CYCLE.findall(text)))
 
 
 def slow_functions(clone, names):
@@ -220,7 +216,7 @@ def page(last, elapsed, seconds, slow):
         f"| all | {cells(sums)} |",
         "",
         f"Proofs that take {LISTED} seconds or more, with as many checks at once as there are cores. Functions that call one another have one proof, "
-        "which is named for one of them:",
+        "which is named for their cycle:",
         "",
         "| Function | Functions in the proof | Seconds | For each |",
         "|---|---|---|---|",

@@ -75,7 +75,7 @@ fn hooks() -> &'static [Hook] {
 pub fn print_both(alloc: Global, table: &Table, lines: &mut Lines) -> Result<(), Stopped> {
     let bytes = table.text(alloc, "hooks")?;
     print_calls(alloc, Calls::Both, lines)?;
-    lines.heading("hooks at which the first gives up before the second, and at which both run")?;
+    lines.heading("hooks at which the first gives up before the second, and at which both run");
     for hook in hooks() {
         print_hook(alloc, bytes.as_slice(), *hook, lines)?;
     }
@@ -88,7 +88,8 @@ fn print_hook(alloc: Global, bytes: &[u8], hook: Hook, lines: &mut Lines) -> Res
     let is_first = !is_seen_beside(alloc, bytes, Some(hook), hook)?;
     let is_second = is_seen_beside(alloc, bytes, None, hook)?;
     let name = format!(in alloc; "{hook:?}")?;
-    lines.answers(name.as_str(), &[is_first, is_second])
+    lines.answers(name.as_str(), &[is_first, is_second]);
+    Ok(())
 }
 
 /// Whether the second pass comes to the hook, where the first gives up at that one.
@@ -228,7 +229,8 @@ pub fn print_twice(alloc: Global, ctx: &mut TraverseCtx, lines: &mut Lines) -> R
     lines.numbers(
         "1, behind which the first pass puts 2 and the second 3",
         &[number],
-    )
+    );
+    Ok(())
 }
 
 /// The number of an expression that two passes entered.

@@ -16,7 +16,7 @@ use oxt_grammar::kind::Kind;
 use oxt_lines::lines::Lines;
 use oxt_lines::nodes::{first_expression, literal};
 use oxt_lines::source::push_declaration;
-use oxt_lines::stopped::Stopped;
+use oxt_lines::stopped::{Stopped, all_well};
 use oxt_lines::table::Table;
 use oxt_names::diagnostic::{DiagnosticKind, OxcDiagnostic};
 use oxt_names::flags::{ReferenceFlags, ScopeFlags, SymbolFlags};
@@ -33,23 +33,27 @@ use std::alloc::Global;
 
 /// The calls of contexts.
 pub fn print_context(alloc: Global, table: &Table, lines: &mut Lines) -> Result<(), Stopped> {
-    print_calls(alloc, Calls::All, lines)?;
-    variables(alloc, table, lines)?;
-    print_text_of(alloc, table, "the text of _a1", "_a1;", lines)?;
-    print_text_of(alloc, table, "the text of a.b()", "a.b();", lines)?;
-    print_text_of(
-        alloc,
-        table,
-        "the text of new (a.b())()",
-        "new (a.b())();",
-        lines,
-    )?;
-    print_text_of(alloc, table, "the text of a!", "a!;", lines)?;
-    lines.heading("the texts of strings")?;
-    print_text_of(alloc, table, "x$_1", "the string x$_1", lines)?;
-    print_text_of(alloc, table, "1x", "the string 1x", lines)?;
-    print_text_of(alloc, table, "a b", "the string a b", lines)?;
-    print_text_of(alloc, table, "nothing", "the string nothing", lines)
+    all_well(&[
+        print_calls(alloc, Calls::All, lines),
+        variables(alloc, table, lines),
+        print_text_of(alloc, table, "the text of _a1", "_a1;", lines),
+        print_text_of(alloc, table, "the text of a.b()", "a.b();", lines),
+        print_text_of(
+            alloc,
+            table,
+            "the text of new (a.b())()",
+            "new (a.b())();",
+            lines,
+        ),
+        print_text_of(alloc, table, "the text of a!", "a!;", lines),
+    ])?;
+    lines.heading("the texts of strings");
+    all_well(&[
+        print_text_of(alloc, table, "x$_1", "the string x$_1", lines),
+        print_text_of(alloc, table, "1x", "the string 1x", lines),
+        print_text_of(alloc, table, "a b", "the string a b", lines),
+        print_text_of(alloc, table, "nothing", "the string nothing", lines),
+    ])
 }
 
 /// The table of a program in which nothing is declared.
@@ -154,16 +158,17 @@ fn nodes_around(alloc: Global, ctx: &mut TraverseCtx, lines: &mut Lines) -> Resu
         ctx,
         "in a class 2, which opens a scope, and its body 3: parent, scope",
         lines,
-    )?;
+    );
     lines.texts(
         "ancestor 1, ancestor 2",
         &[class_name(ctx, 1), class_name(ctx, 2)],
-    )?;
+    );
     let left = left_node(ctx);
-    print_around(ctx, "out of the body: parent, scope", lines)?;
+    print_around(ctx, "out of the body: parent, scope", lines);
     let lefts = [left, left_node(ctx), left_node(ctx)];
-    print_around(ctx, "out of the class: parent, scope", lines)?;
-    lines.options("pop_ancestor, three times", &lefts)
+    print_around(ctx, "out of the class: parent, scope", lines);
+    lines.options("pop_ancestor, three times", &lefts);
+    Ok(())
 }
 
 /// Goes into a class that opens a scope, and into its body, which opens none.
@@ -186,9 +191,9 @@ fn go_in(alloc: Global, ctx: &mut TraverseCtx) -> Result<(), Stopped> {
 }
 
 /// A line with the number of the parent, and the current scope.
-fn print_around(ctx: &TraverseCtx, label: &str, lines: &mut Lines) -> Result<(), Stopped> {
+fn print_around(ctx: &TraverseCtx, label: &str, lines: &mut Lines) {
     let parent = ctx.parent().map(|entry| entry.node.0);
-    lines.options(label, &[parent, Some(ctx.current_scope_id().0)])
+    lines.options(label, &[parent, Some(ctx.current_scope_id().0)]);
 }
 
 /// The name of the class at that level.
@@ -215,8 +220,8 @@ fn found(alloc: Global, ctx: &mut TraverseCtx, lines: &mut Lines) -> Result<(), 
     ctx.error(diagnostic)?;
     for diagnostic in &ctx.diagnostics {
         let line = diagnostic.line(alloc)?;
-        lines.begin("error")?;
-        lines.value(line.as_str())?;
+        lines.begin("error");
+        lines.value(line.as_str());
     }
     Ok(())
 }
@@ -233,7 +238,7 @@ fn made_name(ctx: &mut TraverseCtx) -> Result<BoundIdentifier, Stopped>
 
 fn made_names(ctx: &mut TraverseCtx, lines: &mut Lines) -> Result<(), Stopped> {
     let bound = made_name(ctx)?;
-    lines.text("generate_uid of x", bound.name.as_str())?;
+    lines.text("generate_uid of x", bound.name.as_str());
     uses(&bound, ctx, lines)?;
     bindings(&bound, ctx, lines)
 }
@@ -243,11 +248,12 @@ fn uses(bound: &BoundIdentifier, ctx: &mut TraverseCtx, lines: &mut Lines) -> Re
     requires { bound.now.symbol_id.0 < length ctx.old.scoping.symbols }
 {
     let expression = bound.create_read_expression(ctx)?;
-    print_name("create_read_expression", &expression, lines)?;
+    print_name("create_read_expression", &expression, lines);
     let reference = bound.create_read_reference(ctx)?;
-    print_name("create_read_reference", &reference, lines)?;
+    print_name("create_read_reference", &reference, lines);
     let target = bound.create_write_target(ctx)?;
-    print_name("create_write_target", &target, lines)
+    print_name("create_write_target", &target, lines);
+    Ok(())
 }
 
 /// Lines with the nodes that bind the name.
@@ -257,35 +263,36 @@ fn bindings(
     lines: &mut Lines,
 ) -> Result<(), Stopped> {
     let pattern = bound.create_binding_pattern(ctx)?;
-    print_name("create_binding_pattern", &pattern, lines)?;
+    print_name("create_binding_pattern", &pattern, lines);
     let identifier = bound.create_binding_identifier(ctx)?;
-    print_name("create_binding_identifier", &identifier, lines)
+    print_name("create_binding_identifier", &identifier, lines);
+    Ok(())
 }
 
 /// A line with the node's kind, its number and its name.
-fn print_name(label: &str, node: &Node, lines: &mut Lines) -> Result<(), Stopped> {
-    lines.begin(label)?;
-    lines.value(node.kind.name())?;
-    lines.number_value(node.id.0)?;
+fn print_name(label: &str, node: &Node, lines: &mut Lines) {
+    lines.begin(label);
+    lines.value(node.kind.name());
+    lines.number_value(node.id.0);
     if let Some(part) = node.field(Field::Name) {
-        lines.value(part.as_text().unwrap_or("-"))?;
+        lines.value(part.as_text().unwrap_or("-"));
     }
-    lines.end()?;
-    Ok(())
+    lines.end();
 }
 
 fn own_name(alloc: Global, ctx: &mut TraverseCtx, lines: &mut Lines) -> Result<(), Stopped> {
     let name = Name::new(alloc, "y")?;
     let scope = ctx.current_scope_id();
     let bound = ctx.generate_binding(&name, scope, SymbolFlags::BlockScopedVariable)?;
-    lines.text("generate_binding of y", bound.name.as_str())
+    lines.text("generate_binding of y", bound.name.as_str());
+    Ok(())
 }
 
 // ---- uses that are read back
 
 fn read_back(ctx: &mut TraverseCtx, lines: &mut Lines) -> Result<(), Stopped> {
     let bound = made_name(ctx)?;
-    lines.numbers("generate_uid of x again: its symbol", &[bound.symbol_id.0])?;
+    lines.numbers("generate_uid of x again: its symbol", &[bound.symbol_id.0]);
     let made = ctx.create_ident_expr(&bound.name, Some(bound.symbol_id), ReferenceFlags::Read)?;
     used_again(&made, ctx, lines)
 }
@@ -298,12 +305,13 @@ fn free_name(ctx: &mut TraverseCtx, lines: &mut Lines) -> Result<(), Stopped> {
 /// Reads what a use means, and uses it again.
 fn used_again(made: &Node, ctx: &mut TraverseCtx, lines: &mut Lines) -> Result<(), Stopped> {
     let read = MaybeBoundIdentifier::from_identifier_reference(made, ctx)?;
-    lines.begin("from_identifier_reference")?;
-    lines.value(read.name.as_str())?;
-    lines.option_value(read.symbol_id.map(|symbol| symbol.0))?;
-    lines.end()?;
+    lines.begin("from_identifier_reference");
+    lines.value(read.name.as_str());
+    lines.option_value(read.symbol_id.map(|symbol| symbol.0));
+    lines.end();
     let again = read.create_expression(ReferenceFlags::Write, ctx)?;
-    print_name("create_expression", &again, lines)
+    print_name("create_expression", &again, lines);
+    Ok(())
 }
 
 // ---- variables
@@ -335,7 +343,8 @@ fn plain_variable(ctx: &mut TraverseCtx, lines: &mut Lines) -> Result<(), Stoppe
     ensures { OnOk result (length (frames ctx.new.declarations) ≡ 1) }
 {
     let bound = create_uid_var("k", ctx)?;
-    lines.text("create_uid_var of k", bound.name.as_str())
+    lines.text("create_uid_var of k", bound.name.as_str());
+    Ok(())
 }
 
 fn variable_with_init(
@@ -347,7 +356,8 @@ fn variable_with_init(
     ensures { OnOk result (length (frames ctx.new.declarations) ≡ 1) }
 {
     let bound = create_uid_var_with_init("k", literal(alloc, 1)?, ctx)?;
-    lines.text("create_uid_var_with_init of k, 1", bound.name.as_str())
+    lines.text("create_uid_var_with_init of k, 1", bound.name.as_str());
+    Ok(())
 }
 
 fn variable_for_node(member: &Node, ctx: &mut TraverseCtx, lines: &mut Lines) -> Result<(), Stopped>
@@ -355,7 +365,8 @@ fn variable_for_node(member: &Node, ctx: &mut TraverseCtx, lines: &mut Lines) ->
     ensures { OnOk result (length (frames ctx.new.declarations) ≡ 1) }
 {
     let bound = create_uid_var_based_on_node(member, ctx)?;
-    lines.text("create_uid_var_based_on_node of a.b", bound.name.as_str())
+    lines.text("create_uid_var_based_on_node of a.b", bound.name.as_str());
+    Ok(())
 }
 
 /// A line with the statement of the variables.
@@ -367,7 +378,8 @@ fn print_variables(alloc: Global, ctx: &mut TraverseCtx, lines: &mut Lines) -> R
     if let Some(statement) = &by_var {
         push_declaration(&mut text, statement)?;
     }
-    lines.text("the list begins with", text.as_str())
+    lines.text("the list begins with", text.as_str());
+    Ok(())
 }
 
 // ---- texts of expressions
@@ -394,5 +406,6 @@ fn print_var_name(
     lines: &mut Lines,
 ) -> Result<(), Stopped> {
     let name = get_var_name_from_node(alloc, expression)?;
-    lines.text(label, name.as_str())
+    lines.text(label, name.as_str());
+    Ok(())
 }

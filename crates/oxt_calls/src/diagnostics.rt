@@ -27,7 +27,7 @@ const SPAN: Span = Span { start: 3, end: 9 };
 /// The texts of each kind, and lines.
 pub fn print_diagnostics(alloc: Global, lines: &mut Lines) -> Result<(), Stopped> {
     for kind in KINDS {
-        print_texts(&OxcDiagnostic { kind, span: None }, lines)?;
+        print_texts(&OxcDiagnostic { kind, span: None }, lines);
     }
     print_named(alloc, lines)?;
     print_lines(alloc, lines)
@@ -45,13 +45,14 @@ fn print_named(alloc: Global, lines: &mut Lines) -> Result<(), Stopped> {
     let mut bytes = Vec::new(alloc);
     append_lines(alloc, &diagnostics, &mut bytes)?;
     let text = String::from_utf8_lossy(alloc, bytes.as_slice())?;
-    lines.text("diagnostics that are made by name", text.as_str())
+    lines.text("diagnostics that are made by name", text.as_str());
+    Ok(())
 }
 
-fn print_texts(diagnostic: &OxcDiagnostic, lines: &mut Lines) -> Result<(), Stopped> {
-    lines.text("code", diagnostic.code().unwrap_or("-"))?;
-    lines.text("message", diagnostic.message())?;
-    lines.text("help", diagnostic.help().unwrap_or("-"))
+fn print_texts(diagnostic: &OxcDiagnostic, lines: &mut Lines) {
+    lines.text("code", diagnostic.code().unwrap_or("-"));
+    lines.text("message", diagnostic.message());
+    lines.text("help", diagnostic.help().unwrap_or("-"));
 }
 
 /// Lines behind a text: one with a code and a place, one with neither, one with a code.
@@ -74,5 +75,6 @@ fn print_lines(alloc: Global, lines: &mut Lines) -> Result<(), Stopped> {
     bytes.extend_from_slice(b"three lines\n")?;
     append_lines(alloc, &diagnostics, &mut bytes)?;
     let text = String::from_utf8_lossy(alloc, bytes.as_slice())?;
-    lines.text("append_lines behind a text", text.as_str())
+    lines.text("append_lines behind a text", text.as_str());
+    Ok(())
 }

@@ -17,10 +17,10 @@ use std::alloc::Global;
 pub fn print_hooks(alloc: Global, table: &Table, lines: &mut Lines) -> Result<(), Stopped> {
     lines.heading(
         "hooks of a walk, each with the number of its node, 0 for a list of statements, and of those around",
-    )?;
+    );
     let mut program = table.tree(alloc, "a node of each kind")?;
     let text = hooks_of(alloc, &mut program)?;
-    lines.add(text.as_str())?;
+    lines.add(text.as_str());
     Ok(())
 }
 

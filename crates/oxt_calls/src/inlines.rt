@@ -4,7 +4,7 @@ use crate::plans::push_constant;
 use oxt_inline::dropped::dropped_blocks;
 use oxt_inline::inlined::inlined_expressions;
 use oxt_lines::lines::Lines;
-use oxt_lines::stopped::Stopped;
+use oxt_lines::stopped::{Stopped, all_well};
 use oxt_lines::table::Table;
 use oxt_metadata::symbols::NamedSymbols;
 use oxt_modules::jsx::jsx_use;
@@ -26,7 +26,7 @@ struct Choice {
 
 /// What is found of an enum and a `const` enum, under each choice.
 pub fn print_inlines(alloc: Global, table: &Table, lines: &mut Lines) -> Result<(), Stopped> {
-    lines.heading(TREE)?;
+    lines.heading(TREE);
     let program = table.tree(alloc, TREE)?;
     let scoping = resolve(alloc, &program.root, false)?;
     let printed = print_choices(alloc, &program.root, &scoping, lines);
@@ -44,10 +44,12 @@ fn print_choices(
     scoping: &Scoping,
     lines: &mut Lines,
 ) -> Result<(), Stopped> {
-    print_choice(alloc, program, scoping, chosen(false, false), lines)?;
-    print_choice(alloc, program, scoping, chosen(true, false), lines)?;
-    print_choice(alloc, program, scoping, chosen(false, true), lines)?;
-    print_choice(alloc, program, scoping, chosen(true, true), lines)
+    all_well(&[
+        print_choice(alloc, program, scoping, chosen(false, false), lines),
+        print_choice(alloc, program, scoping, chosen(true, false), lines),
+        print_choice(alloc, program, scoping, chosen(false, true), lines),
+        print_choice(alloc, program, scoping, chosen(true, true), lines),
+    ])
 }
 
 /// That choice.
@@ -63,7 +65,7 @@ fn print_choice(
     choice: Choice,
     lines: &mut Lines,
 ) -> Result<(), Stopped> {
-    lines.answers("enums, const enums", &[choice.enums, choice.const_enums])?;
+    lines.answers("enums, const enums", &[choice.enums, choice.const_enums]);
     let options = options_of(alloc, choice)?;
     let printed = print_under(alloc, program, scoping, &options, lines);
     drop(options);
@@ -124,12 +126,12 @@ fn inlined_beside(
 
 /// A line with these expressions and their constants.
 fn push_inlined(inlined: &[(NodeId, ConstantValue)], lines: &mut Lines) -> Result<(), Stopped> {
-    lines.begin("inlined")?;
+    lines.begin("inlined");
     for expression in inlined {
-        lines.number_value(expression.0.0)?;
-        push_constant(Some(&expression.1), lines)?;
+        lines.number_value(expression.0.0);
+        push_constant(Some(&expression.1), lines);
     }
-    lines.end()?;
+    lines.end();
     Ok(())
 }
 
@@ -145,7 +147,8 @@ fn print_dropped(
     let found = dropped_beside(alloc, program, scoping, &named, options);
     drop(named);
     let dropped = found?;
-    push_dropped(dropped.as_slice(), lines)
+    push_dropped(dropped.as_slice(), lines);
+    Ok(())
 }
 
 /// The blocks that go, where metadata names those symbols.
@@ -164,11 +167,10 @@ fn dropped_beside(
 }
 
 /// A line with these blocks.
-fn push_dropped(dropped: &[NodeId], lines: &mut Lines) -> Result<(), Stopped> {
-    lines.begin("dropped")?;
+fn push_dropped(dropped: &[NodeId], lines: &mut Lines) {
+    lines.begin("dropped");
     for block in dropped {
-        lines.number_value(block.0)?;
+        lines.number_value(block.0);
     }
-    lines.end()?;
-    Ok(())
+    lines.end();
 }

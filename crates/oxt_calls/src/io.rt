@@ -6,7 +6,7 @@ use oxt_io::{
     SureSink, SureSource, WriterSink, read_to_limit, write_all,
 };
 use oxt_lines::lines::Lines;
-use oxt_lines::stopped::Stopped;
+use oxt_lines::stopped::{Stopped, all_well};
 use std::alloc::{AllocError, Global};
 
 /// A text of forty bytes.
@@ -17,13 +17,16 @@ pub fn print_io(alloc: Global, lines: &mut Lines) -> Result<(), Stopped> {
     for limit in [4, 5, 9] {
         sure_to(alloc, limit, lines)?;
     }
-    in_small_steps(alloc, lines)?;
-    failing_source(alloc, lines)?;
-    failing_sink(alloc, lines)?;
-    with_room(alloc, lines)?;
-    without_room(alloc, lines)?;
-    of_std(alloc, lines)?;
-    no_memory(lines)
+    all_well(&[
+        in_small_steps(alloc, lines),
+        failing_source(alloc, lines),
+        failing_sink(alloc, lines),
+        with_room(alloc, lines),
+        without_room(alloc, lines),
+        of_std(alloc, lines),
+    ])?;
+    no_memory(lines);
+    Ok(())
 }
 
 /// How a fault is named.
@@ -45,14 +48,18 @@ fn print_read<S: Source>(
 ) -> Result<(), Stopped> {
     match read_to_limit(alloc, source, limit) {
         Ok(bytes) => print_bytes(alloc, bytes.as_slice(), label, lines),
-        Err(fault) => lines.text(label, fault_name(fault)),
+        Err(fault) => {
+            lines.text(label, fault_name(fault));
+            Ok(())
+        }
     }
 }
 
 /// A line with the bytes as a text in brackets.
 fn print_bytes(alloc: Global, bytes: &[u8], label: &str, lines: &mut Lines) -> Result<(), Stopped> {
     let text = String::from_utf8_lossy(alloc, bytes)?;
-    lines.bracketed(label, text.as_str())
+    lines.bracketed(label, text.as_str());
+    Ok(())
 }
 
 /// What a write answers.
@@ -65,7 +72,7 @@ fn written(outcome: Result<(), Failed>) -> &'static str {
 
 fn sure_to(alloc: Global, limit: usize, lines: &mut Lines) -> Result<(), Stopped> {
     let mut source = SureSource::new(alloc, b"hello")?;
-    lines.numbers("hello, read to the limit", &[limit as u64])?;
+    lines.numbers("hello, read to the limit", &[limit as u64]);
     print_read(alloc, &mut source, limit, "read", lines)
 }
 
@@ -98,9 +105,9 @@ fn failing_sink(alloc: Global, lines: &mut Lines) -> Result<(), Stopped> {
     lines.text(
         "written by 16 a call, failing at the second",
         written(write_all(&mut sink, FORTY)),
-    )?;
+    );
     print_bytes(alloc, sink.bytes(), "taken", lines)?;
-    lines.text("the rest", written(write_all(&mut sink, rest)))?;
+    lines.text("the rest", written(write_all(&mut sink, rest)));
     print_bytes(alloc, sink.bytes(), "taken", lines)
 }
 
@@ -109,25 +116,28 @@ fn with_room(alloc: Global, lines: &mut Lines) -> Result<(), Stopped> {
     lines.text(
         "ten bytes into room for five",
         written(write_all(&mut sink, b"hello, you")),
-    )?;
+    );
     print_bytes(alloc, sink.bytes(), "taken", lines)
 }
 
 fn without_room(alloc: Global, lines: &mut Lines) -> Result<(), Stopped> {
     let mut sink = MemorySink::new(alloc, 0, 16, &[])?;
-    lines.text("no byte into no room", written(write_all(&mut sink, b"")))?;
-    lines.text("a byte into no room", written(write_all(&mut sink, b"a")))?;
+    lines.text("no byte into no room", written(write_all(&mut sink, b"")));
+    lines.text("a byte into no room", written(write_all(&mut sink, b"a")));
     lines.text(
         "ten bytes into a sure sink",
         written(write_all(&mut SureSink::new(), b"hello, you")),
-    )
+    );
+    Ok(())
 }
 
 fn of_std(alloc: Global, lines: &mut Lines) -> Result<(), Stopped> {
     let mut source = ReaderSource::new(b"hello".as_slice());
-    print_read(alloc, &mut source, 5, "from a reader", lines)?;
-    into_list(alloc, lines)?;
-    into_three(alloc, lines)
+    all_well(&[
+        print_read(alloc, &mut source, 5, "from a reader", lines),
+        into_list(alloc, lines),
+        into_three(alloc, lines),
+    ])
 }
 
 fn into_list(alloc: Global, lines: &mut Lines) -> Result<(), Stopped> {
@@ -135,21 +145,21 @@ fn into_list(alloc: Global, lines: &mut Lines) -> Result<(), Stopped> {
     lines.text(
         "into a list",
         written(write_all(&mut WriterSink::new(&mut bytes), b"hello")),
-    )?;
+    );
     print_bytes(alloc, bytes.as_slice(), "taken", lines)
 }
 
 fn into_three(alloc: Global, lines: &mut Lines) -> Result<(), Stopped> {
     let mut three = [0u8; 3];
     let outcome = write_all(&mut WriterSink::new(three.as_mut_slice()), b"hello");
-    lines.text("into three bytes", written(outcome))?;
+    lines.text("into three bytes", written(outcome));
     print_bytes(alloc, three.as_slice(), "taken", lines)
 }
 
-fn no_memory(lines: &mut Lines) -> Result<(), Stopped> {
+fn no_memory(lines: &mut Lines) {
     let _ = OutOfMemory::from(AllocError);
     lines.text(
         "want of memory, read",
         fault_name(InputFault::from(AllocError)),
-    )
+    );
 }

@@ -51,7 +51,8 @@ fn print_needs(
         key_needs_temp_var(key, ctx),
         key_needs_temp_var(&number, ctx),
     ];
-    lines.answers("key_needs_temp_var of a.b, 1", &answers)
+    lines.answers("key_needs_temp_var of a.b, 1", &answers);
+    Ok(())
 }
 
 /// Lines with the key as it is kept, and as it is read.
@@ -95,7 +96,8 @@ fn print_outline(
     lines: &mut Lines,
 ) -> Result<(), Stopped> {
     let text = outline_of(alloc, node)?;
-    lines.text(label, text.as_str())
+    lines.text(label, text.as_str());
+    Ok(())
 }
 
 /// A line with the statement of the variables.
@@ -107,5 +109,6 @@ fn print_lets(alloc: Global, ctx: &mut TraverseCtx, lines: &mut Lines) -> Result
     if let Some(statement) = &by_let {
         push_declaration(&mut text, statement)?;
     }
-    lines.text("the list begins with", text.as_str())
+    lines.text("the list begins with", text.as_str());
+    Ok(())
 }

@@ -54,7 +54,7 @@ use crate::words::print_words;
 use anyhow::Result;
 use oxt_io::ReaderSource;
 use oxt_lines::lines::Lines;
-use oxt_lines::stopped::Stopped;
+use oxt_lines::stopped::{Stopped, all_well};
 use oxt_lines::table::Table;
 use std::alloc::Global;
 
@@ -63,16 +63,18 @@ fn main(rt: HostRuntime) -> Result<()> {
     let table = Table::read_from(rt.alloc(), &mut source)?;
     let mut lines = Lines::new(rt.alloc());
     print_all(rt.alloc(), &table, &mut lines)?;
-    let text = lines.as_str();
+    let text = lines.as_str()?;
     print!(rt; "{text}")?;
     Ok(())
 }
 
 /// All sections.
 fn print_all(alloc: Global, table: &Table, lines: &mut Lines) -> std::result::Result<(), Stopped> {
-    print_of_trees(alloc, table, lines)?;
-    print_of_names(alloc, table, lines)?;
-    print_of_walks(alloc, table, lines)
+    all_well(&[
+        print_of_trees(alloc, table, lines),
+        print_of_names(alloc, table, lines),
+        print_of_walks(alloc, table, lines),
+    ])
 }
 
 /// The calls of trees and texts, sources and sinks, options, diagnostics and effect words.
@@ -81,16 +83,18 @@ fn print_of_trees(
     table: &Table,
     lines: &mut Lines,
 ) -> std::result::Result<(), Stopped> {
-    print_options(alloc, lines)?;
-    print_diagnostics(alloc, lines)?;
-    print_words(alloc, lines)?;
-    print_io(alloc, lines)?;
-    print_trees(alloc, table, lines)?;
-    print_texts(alloc, table, lines)?;
-    print_targets(alloc, table, lines)?;
-    print_places(alloc, table, lines)?;
-    print_visits(alloc, table, lines)?;
-    print_supers(alloc, table, lines)
+    all_well(&[
+        print_options(alloc, lines),
+        print_diagnostics(alloc, lines),
+        print_words(alloc, lines),
+        print_io(alloc, lines),
+        print_trees(alloc, table, lines),
+        print_texts(alloc, table, lines),
+        print_targets(alloc, table, lines),
+        print_places(alloc, table, lines),
+        print_visits(alloc, table, lines),
+        print_supers(alloc, table, lines),
+    ])
 }
 
 /// The calls of names, tables of scopes, plans, constants and owners.
@@ -99,12 +103,14 @@ fn print_of_names(
     table: &Table,
     lines: &mut Lines,
 ) -> std::result::Result<(), Stopped> {
-    print_names(alloc, table, lines)?;
-    print_scoping(alloc, table, lines)?;
-    print_plans(alloc, lines)?;
-    print_symbols(alloc, table, lines)?;
-    print_owners(alloc, table, lines)?;
-    print_inlines(alloc, table, lines)
+    all_well(&[
+        print_names(alloc, table, lines),
+        print_scoping(alloc, table, lines),
+        print_plans(alloc, lines),
+        print_symbols(alloc, table, lines),
+        print_owners(alloc, table, lines),
+        print_inlines(alloc, table, lines),
+    ])
 }
 
 /// The calls of the stores, the context of a walk, its hooks and the passes.
@@ -113,10 +119,12 @@ fn print_of_walks(
     table: &Table,
     lines: &mut Lines,
 ) -> std::result::Result<(), Stopped> {
-    print_stores(alloc, lines)?;
-    print_context(alloc, table, lines)?;
-    print_keys(alloc, table, lines)?;
-    print_passes(alloc, table, lines)?;
-    print_both(alloc, table, lines)?;
-    print_hooks(alloc, table, lines)
+    all_well(&[
+        print_stores(alloc, lines),
+        print_context(alloc, table, lines),
+        print_keys(alloc, table, lines),
+        print_passes(alloc, table, lines),
+        print_both(alloc, table, lines),
+        print_hooks(alloc, table, lines),
+    ])
 }

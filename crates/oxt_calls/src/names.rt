@@ -1,7 +1,7 @@
 //! Names that are made: each is one that nothing has.
 
 use oxt_lines::lines::Lines;
-use oxt_lines::stopped::Stopped;
+use oxt_lines::stopped::{Stopped, all_well};
 use oxt_lines::table::Table;
 use oxt_names::uid::UidNames;
 use oxt_resolve::names::taken_names;
@@ -13,9 +13,11 @@ const NAMES: &str = "let _a = _b; ({ _c: \"_d\" }); enum E { _e, \"_f\", [`_g`] 
 
 /// The names that are made beside others.
 pub fn print_names(alloc: Global, table: &Table, lines: &mut Lines) -> Result<(), Stopped> {
-    beside_two(alloc, lines)?;
-    beside_seven(alloc, lines)?;
-    beside_a_tree(alloc, table, lines)
+    all_well(&[
+        beside_two(alloc, lines),
+        beside_seven(alloc, lines),
+        beside_a_tree(alloc, table, lines),
+    ])
 }
 
 /// Takes each of the names.
@@ -33,18 +35,18 @@ fn print_made(
     label: &str,
     lines: &mut Lines,
 ) -> Result<(), Stopped> {
-    lines.begin(label)?;
+    lines.begin(label);
     for text in texts {
         print_next(names, text, lines)?;
     }
-    lines.end()?;
+    lines.end();
     Ok(())
 }
 
 /// Adds the name that is made of the text.
 fn print_next(names: &mut UidNames, text: &str, lines: &mut Lines) -> Result<(), Stopped> {
     let made = names.generate_uid_name(text)?;
-    lines.value(made.as_str())?;
+    lines.value(made.as_str());
     Ok(())
 }
 
@@ -65,7 +67,8 @@ fn print_beside_two(names: &mut UidNames, lines: &mut Lines) -> Result<(), Stopp
         "beside _x and x2, made of x, x, __y7, 12",
         lines,
     )?;
-    lines.answers("_x3 and x are taken", &[names.has("_x3"), names.has("x")])
+    lines.answers("_x3 and x are taken", &[names.has("_x3"), names.has("x")]);
+    Ok(())
 }
 
 fn beside_seven(alloc: Global, lines: &mut Lines) -> Result<(), Stopped> {

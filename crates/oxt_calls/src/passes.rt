@@ -52,5 +52,6 @@ fn print_outline(
     lines: &mut Lines,
 ) -> Result<(), Stopped> {
     let text = outline_of(alloc, node)?;
-    lines.text(label, text.as_str())
+    lines.text(label, text.as_str());
+    Ok(())
 }

@@ -7,7 +7,7 @@ use oxt_names::ids::NodeId;
 use oxt_names::name::Name;
 use oxt_options::lists::PlanLists;
 use oxt_options::plan::Plan;
-use std::alloc::{AllocError, Global};
+use std::alloc::Global;
 
 /// A question that a plan answers of each node.
 #[derive(Clone, Copy)]
@@ -42,47 +42,45 @@ impl Question {
 
 /// The answers of an empty plan, of one with four lists, and of one with constants.
 pub fn print_plans(alloc: Global, lines: &mut Lines) -> Result<(), Stopped> {
-    lines.heading("an empty plan, of the nodes 0 to 8")?;
-    no_lists(alloc, lines)?;
-    lines.heading("the nodes 3, 1, 3 kept, 2 first, 5 dropped, 7 never written")?;
+    lines.heading("an empty plan, of the nodes 0 to 8");
+    no_lists(alloc, lines);
+    lines.heading("the nodes 3, 1, 3 kept, 2 first, 5 dropped, 7 never written");
     four_lists(alloc, lines)?;
     constants(alloc, lines)
 }
 
 /// A line for each question, with the nodes of which the answer is yes.
-fn print_answers(plan: &Plan, lines: &mut Lines) -> Result<(), Stopped> {
-    print_nodes(plan, Question::Keeps, lines)?;
-    print_nodes(plan, Question::IsFirst, lines)?;
-    print_nodes(plan, Question::IsDropped, lines)?;
-    print_nodes(plan, Question::IsNeverWritten, lines)
+fn print_answers(plan: &Plan, lines: &mut Lines) {
+    print_nodes(plan, Question::Keeps, lines);
+    print_nodes(plan, Question::IsFirst, lines);
+    print_nodes(plan, Question::IsDropped, lines);
+    print_nodes(plan, Question::IsNeverWritten, lines);
 }
 
 /// The nodes of which the answer is yes.
-fn print_nodes(plan: &Plan, question: Question, lines: &mut Lines) -> Result<(), Stopped> {
-    lines.begin(question.name())?;
+fn print_nodes(plan: &Plan, question: Question, lines: &mut Lines) {
+    lines.begin(question.name());
     for number in 0..9 {
         if question.ask(plan, NodeId(number)) {
-            lines.number_value(number)?;
+            lines.number_value(number);
         }
     }
-    lines.end()?;
-    Ok(())
+    lines.end();
 }
 
-fn no_lists(alloc: Global, lines: &mut Lines) -> Result<(), Stopped> {
+fn no_lists(alloc: Global, lines: &mut Lines) {
     let plan = Plan::empty(alloc);
-    let printed = print_answers(&plan, lines);
+    print_answers(&plan, lines);
     drop(plan);
-    printed
 }
 
 fn four_lists(alloc: Global, lines: &mut Lines) -> Result<(), Stopped> {
     let mut lists = PlanLists::empty(alloc);
     let filled = fill(&mut lists);
     let plan = plan_of(alloc, lists, filled)?;
-    let printed = print_answers(&plan, lines);
+    print_answers(&plan, lines);
     drop(plan);
-    printed
+    Ok(())
 }
 
 /// The plan with these lists, if they were filled.
@@ -111,19 +109,18 @@ fn constants(alloc: Global, lines: &mut Lines) -> Result<(), Stopped> {
     let mut lists = PlanLists::empty(alloc);
     let filled = inline(alloc, &mut lists);
     let plan = plan_of(alloc, lists, filled)?;
-    let printed = print_inlined(&plan, lines);
+    print_inlined(&plan, lines);
     drop(plan);
-    printed
+    Ok(())
 }
 
 /// A line with the constants of three nodes.
-fn print_inlined(plan: &Plan, lines: &mut Lines) -> Result<(), Stopped> {
-    lines.begin("1, then -2 for node 4, a text a for node 9: inlined of 4, 9, 1")?;
-    push_constant(plan.inlined(NodeId(4)), lines)?;
-    push_constant(plan.inlined(NodeId(9)), lines)?;
-    push_constant(plan.inlined(NodeId(1)), lines)?;
-    lines.end()?;
-    Ok(())
+fn print_inlined(plan: &Plan, lines: &mut Lines) {
+    lines.begin("1, then -2 for node 4, a text a for node 9: inlined of 4, 9, 1");
+    push_constant(plan.inlined(NodeId(4)), lines);
+    push_constant(plan.inlined(NodeId(9)), lines);
+    push_constant(plan.inlined(NodeId(1)), lines);
+    lines.end();
 }
 
 /// Three constants, two of them of one node.
@@ -136,10 +133,7 @@ fn inline(alloc: Global, lists: &mut PlanLists) -> Result<(), Stopped> {
 }
 
 /// Adds the constant to the line, or a dash.
-pub fn push_constant(
-    constant: Option<&ConstantValue>,
-    lines: &mut Lines,
-) -> Result<(), AllocError> {
+pub fn push_constant(constant: Option<&ConstantValue>, lines: &mut Lines) {
     match constant {
         Some(ConstantValue::Number(number)) => lines.integer_value(*number),
         Some(ConstantValue::Text(name)) => lines.value(name.as_str()),

@@ -3,7 +3,7 @@ ghost use Rattle.std.specs.Prelude.{◌≡◌, ◌<◌, IfOk, length};
 
 use bitflags::Flags;
 use oxt_lines::lines::Lines;
-use oxt_lines::stopped::Stopped;
+use oxt_lines::stopped::{Stopped, all_well};
 use oxt_lines::table::Table;
 use oxt_names::constant::ConstantValue;
 use oxt_names::flags::{ReferenceFlags, ScopeFlags, SymbolFlags};
@@ -18,9 +18,11 @@ use std::alloc::Global;
 
 /// The calls of tables.
 pub fn print_scoping(alloc: Global, table: &Table, lines: &mut Lines) -> Result<(), Stopped> {
-    resolved(alloc, table, lines)?;
-    by_hand(alloc, lines)?;
-    without_types(alloc, lines)
+    all_well(&[
+        resolved(alloc, table, lines),
+        by_hand(alloc, lines),
+        without_types(alloc, lines),
+    ])
 }
 
 /// The number of what was found.
@@ -53,7 +55,7 @@ fn in_scopes(alloc: Global, scoping: &mut Scoping, lines: &mut Lines) -> Result<
             scope_number(scoping, 4),
             scope_number(scoping, 6),
         ],
-    )?;
+    );
     bound_within(alloc, scoping, lines)
 }
 
@@ -74,14 +76,16 @@ fn bound_within(alloc: Global, scoping: &mut Scoping, lines: &mut Lines) -> Resu
     lines.numbers(
         "create_child_scope, create_symbol of b, create_reference",
         &made,
-    )?;
-    print_bindings(scoping, scope, lines)
+    );
+    print_bindings(scoping, scope, lines);
+    Ok(())
 }
 
 /// What the names are bound to in the scope.
-fn print_bindings(scoping: &Scoping, scope: ScopeId, lines: &mut Lines) -> Result<(), Stopped> {
+fn print_bindings(scoping: &Scoping, scope: ScopeId, lines: &mut Lines) {
     if !scoping.has_scope(scope) {
-        return lines.text("the scope", "is not there");
+        lines.text("the scope", "is not there");
+        return;
     }
     let found = [
         number_of(scoping.get_binding(scope, "b")),
@@ -93,7 +97,7 @@ fn print_bindings(scoping: &Scoping, scope: ScopeId, lines: &mut Lines) -> Resul
     lines.options(
         "get_binding of b, find_binding of b and of f, symbol_of, reference_of",
         &found,
-    )
+    );
 }
 
 // ---- an empty table
@@ -109,7 +113,7 @@ fn changed(alloc: Global, scoping: &mut Scoping, lines: &mut Lines) -> Result<()
     opened(scoping, lines)?;
     declared_twice(alloc, scoping, lines)?;
     deleted(scoping, lines)?;
-    flags_changed(scoping, lines)?;
+    flags_changed(scoping, lines);
     made_names(scoping, lines)?;
     enums(alloc, scoping, lines)
 }
@@ -122,7 +126,8 @@ fn opened(scoping: &mut Scoping, lines: &mut Lines) -> Result<(), Stopped> {
         scope_number(scoping, 3),
         scope_number(scoping, 4),
     ];
-    lines.options("open_scope at node 3, scope_of 3, scope_of 4", &found)
+    lines.options("open_scope at node 3, scope_of 3, scope_of 4", &found);
+    Ok(())
 }
 
 fn declared_twice(alloc: Global, scoping: &mut Scoping, lines: &mut Lines) -> Result<(), Stopped> {
@@ -141,7 +146,8 @@ fn declared_twice(alloc: Global, scoping: &mut Scoping, lines: &mut Lines) -> Re
     lines.options(
         "create_symbol of E at node 2, declare_again at 7, symbol_of 2, 7, 8",
         &found,
-    )
+    );
+    Ok(())
 }
 
 fn deleted(scoping: &mut Scoping, lines: &mut Lines) -> Result<(), Stopped> {
@@ -152,7 +158,8 @@ fn deleted(scoping: &mut Scoping, lines: &mut Lines) -> Result<(), Stopped> {
     lines.options(
         "create_reference at node 4, reference_of 4, after delete_reference",
         &found,
-    )
+    );
+    Ok(())
 }
 
 /// Deletes the reference, where it is there.
@@ -169,14 +176,14 @@ fn reference_number(scoping: &Scoping, node: u64) -> Option<u64> {
         .map(|reference| reference.0)
 }
 
-fn flags_changed(scoping: &mut Scoping, lines: &mut Lines) -> Result<(), Stopped> {
+fn flags_changed(scoping: &mut Scoping, lines: &mut Lines) {
     let before = root_flags(scoping);
     let root = scoping.root_scope_id();
     *scoping.scope_flags_mut(root) = ScopeFlags::StrictMode;
     lines.numbers(
         "the flags of the first scope, before and after scope_flags_mut",
         &[before, root_flags(scoping)],
-    )
+    );
 }
 
 /// The bits of the first scope's flags.
@@ -191,7 +198,8 @@ fn made_names(scoping: &mut Scoping, lines: &mut Lines) -> Result<(), Stopped> {
     lines.texts(
         "generate_uid_name of x, twice",
         &[first.as_str(), second.as_str()],
-    )
+    );
+    Ok(())
 }
 
 /// A symbol of the program that emits nothing.
@@ -218,13 +226,15 @@ fn enums(alloc: Global, scoping: &mut Scoping, lines: &mut Lines) -> Result<(), 
     let root = scoping.root_scope_id();
     scoping.add_enum_body(symbol, root)?;
     scoping.set_enum_member_value(symbol, ConstantValue::Number(7));
-    print_enum(scoping, symbol, lines)
+    print_enum(scoping, symbol, lines);
+    Ok(())
 }
 
 /// What is known of an enum.
-fn print_enum(scoping: &Scoping, symbol: SymbolId, lines: &mut Lines) -> Result<(), Stopped> {
+fn print_enum(scoping: &Scoping, symbol: SymbolId, lines: &mut Lines) {
     if !scoping.has_symbol(symbol) {
-        return lines.text("the enum", "is not there");
+        lines.text("the enum", "is not there");
+        return;
     }
     let bodies = match scoping.get_enum_body_scopes(symbol) {
         Some(bodies) => Some(bodies.len() as u64),
@@ -237,8 +247,8 @@ fn print_enum(scoping: &Scoping, symbol: SymbolId, lines: &mut Lines) -> Result<
     lines.options(
         "a const enum with a body and the value 7: its bodies, its value",
         &[bodies, value],
-    )?;
-    lines.answers("is_const_enum", &[scoping.is_const_enum(symbol)])
+    );
+    lines.answers("is_const_enum", &[scoping.is_const_enum(symbol)]);
 }
 
 // ---- types
@@ -257,10 +267,11 @@ fn types_deleted(alloc: Global, scoping: &mut Scoping, lines: &mut Lines) -> Res
         "an interface a, a class b, an ambient class c, bound to",
         scoping,
         lines,
-    )?;
+    );
     scoping.delete_typescript_bindings();
-    print_three("after delete_typescript_bindings", scoping, lines)?;
-    lines.options("scope_of the program", &[scope_number(scoping, 1)])
+    print_three("after delete_typescript_bindings", scoping, lines);
+    lines.options("scope_of the program", &[scope_number(scoping, 1)]);
+    Ok(())
 }
 
 /// An interface, a class and an ambient class.
@@ -277,12 +288,12 @@ fn declare_three(alloc: Global, scoping: &mut Scoping) -> Result<(), Stopped> {
 }
 
 /// What the three names are bound to in the first scope.
-fn print_three(label: &str, scoping: &Scoping, lines: &mut Lines) -> Result<(), Stopped> {
+fn print_three(label: &str, scoping: &Scoping, lines: &mut Lines) {
     let root = scoping.root_scope_id();
     let found = [
         number_of(scoping.get_binding(root, "a")),
         number_of(scoping.get_binding(root, "b")),
         number_of(scoping.get_binding(root, "c")),
     ];
-    lines.options(label, &found)
+    lines.options(label, &found);
 }

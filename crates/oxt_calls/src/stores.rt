@@ -7,7 +7,7 @@ use oxt_grammar::kind::Kind;
 use oxt_lines::lines::Lines;
 use oxt_lines::nodes::{literal, named, node, statement, statements};
 use oxt_lines::source::{push_declaration, source_of};
-use oxt_lines::stopped::Stopped;
+use oxt_lines::stopped::{Stopped, all_well};
 use oxt_names::ids::{NodeId, NodeIds, SymbolId};
 use oxt_names::name::Name;
 use oxt_stores::bound::BoundIdentifier;
@@ -19,17 +19,19 @@ use std::alloc::Global;
 
 /// The calls of the three stores.
 pub fn print_stores(alloc: Global, lines: &mut Lines) -> Result<(), Stopped> {
-    sparse_stack(alloc, lines)?;
-    lent_top(alloc, lines)?;
-    five_beside_one(alloc, lines)?;
-    five_beside_the_first(alloc, lines)?;
-    each_comes_first(alloc, lines)?;
-    empty_list(alloc, lines)?;
-    moved_behind(alloc, lines)?;
-    moved_twice(alloc, lines)?;
-    declarators_at_top(alloc, lines)?;
-    declarators_of_program(alloc, lines)?;
-    no_declarators(alloc, lines)
+    all_well(&[
+        sparse_stack(alloc, lines),
+        lent_top(alloc, lines),
+        five_beside_one(alloc, lines),
+        five_beside_the_first(alloc, lines),
+        each_comes_first(alloc, lines),
+        empty_list(alloc, lines),
+        moved_behind(alloc, lines),
+        moved_twice(alloc, lines),
+        declarators_at_top(alloc, lines),
+        declarators_of_program(alloc, lines),
+        no_declarators(alloc, lines),
+    ])
 }
 
 // ---- the stack
@@ -51,7 +53,8 @@ fn push_and_pop(stack: &mut SparseStack<u64>, lines: &mut Lines) -> Result<(), S
     lines.options(
         "push(None), push(Some(1)), len, pop, pop, pop, len",
         &[Some(length), pops[0], pops[1], pops[2], Some(rest)],
-    )
+    );
+    Ok(())
 }
 
 fn lent_top(alloc: Global, lines: &mut Lines) -> Result<(), Stopped> {
@@ -72,7 +75,8 @@ fn write_tops(stack: &mut SparseStack<u64>, lines: &mut Lines) -> Result<(), Sto
     lines.options(
         "last_mut of no entry, of an empty entry, of 7, over which 1 is written, pop",
         &[of_none, of_empty, of_seven, popped],
-    )
+    );
+    Ok(())
 }
 
 /// Writes the number over the value on top, and gives that value.
@@ -150,7 +154,8 @@ fn placed(
     let mut list = statements(alloc, letters)?;
     store.insert_into_statements(&mut list)?;
     let text = source_of(alloc, list.as_slice())?;
-    lines.texts(label, &[text.as_str(), "-", rest_name(store.is_empty())])
+    lines.texts(label, &[text.as_str(), "-", rest_name(store.is_empty())]);
+    Ok(())
 }
 
 /// What is left of the store.
@@ -190,7 +195,7 @@ fn place_five(
     lines.answers(
         "is_empty of a new store, of one with five insertions",
         &[before, store.is_empty()],
-    )?;
+    );
     let label =
         "insert_before a, insert_after b, insert_before c, insert_many_before d e, insert_many_after f, the list s";
     placed(alloc, store, b"s", label, lines)
@@ -349,11 +354,12 @@ fn topped(
     let mut list = statements(alloc, b"s")?;
     store.insert_into_statements(&mut list, is_program_body, ids)?;
     let text = source_of(alloc, list.as_slice())?;
-    lines.text("the list s with its declarators", text.as_str())?;
+    lines.text("the list s with its declarators", text.as_str());
     lines.numbers(
         "depth and the next number",
         &[store.depth() as u64, ids.next],
-    )
+    );
+    Ok(())
 }
 
 fn declarators_at_top(alloc: Global, lines: &mut Lines) -> Result<(), Stopped> {
@@ -433,7 +439,7 @@ fn waiting(
     lines.text(
         "the body s of a program with its declarators",
         text.as_str(),
-    )?;
+    );
     two_statements(alloc, store, ids, lines)
 }
 
@@ -453,7 +459,8 @@ fn two_statements(
     lines.numbers(
         "depth before and after",
         &[depth as u64, store.depth() as u64],
-    )
+    );
+    Ok(())
 }
 
 /// A line with the statement.
@@ -463,5 +470,6 @@ fn print_statement(alloc: Global, node: &Option<Node>, lines: &mut Lines) -> Res
         Some(node) => push_declaration(&mut text, node)?,
         None => text.push('-')?,
     }
-    lines.text("get_var_statement", text.as_str())
+    lines.text("get_var_statement", text.as_str());
+    Ok(())
 }

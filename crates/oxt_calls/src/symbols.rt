@@ -4,7 +4,7 @@ use crate::plans::push_constant;
 use bitflags::Flags;
 use oxt_constant::operator::{BinaryOperator, UnaryOperator};
 use oxt_lines::lines::Lines;
-use oxt_lines::stopped::Stopped;
+use oxt_lines::stopped::{Stopped, all_well};
 use oxt_lines::table::Table;
 use oxt_names::constant::ConstantValue;
 use oxt_names::flags::{ReferenceFlags, ScopeFlags, SymbolFlags};
@@ -22,8 +22,9 @@ pub fn print_symbols(alloc: Global, table: &Table, lines: &mut Lines) -> Result<
         print_unary(text_at(row, 0), integer_at(row, 1), lines)?;
     }
     texts(alloc, lines)?;
-    no_operators(lines)?;
-    flags(lines)
+    no_operators(lines);
+    flags(lines);
+    Ok(())
 }
 
 /// The number at that place of a row.
@@ -49,13 +50,13 @@ fn print_binary(
     right: i64,
     lines: &mut Lines,
 ) -> Result<(), Stopped> {
-    lines.operation(Some(left), operator, right)?;
+    lines.operation(Some(left), operator, right);
     let value = match BinaryOperator::find(operator) {
         Some(operator) => apply(alloc, operator, left, right)?,
         None => None,
     };
-    push_constant(value.as_ref(), lines)?;
-    lines.end()?;
+    push_constant(value.as_ref(), lines);
+    lines.end();
     Ok(())
 }
 
@@ -72,13 +73,13 @@ fn apply(
 }
 
 fn print_unary(operator: &str, operand: i64, lines: &mut Lines) -> Result<(), Stopped> {
-    lines.operation(None, operator, operand)?;
+    lines.operation(None, operator, operand);
     let value = match UnaryOperator::find(operator) {
         Some(operator) => operator.apply(&ConstantValue::Number(operand)),
         None => None,
     };
-    push_constant(value.as_ref(), lines)?;
-    lines.end()?;
+    push_constant(value.as_ref(), lines);
+    lines.end();
     Ok(())
 }
 
@@ -91,11 +92,13 @@ fn texts(alloc: Global, lines: &mut Lines) -> Result<(), Stopped> {
 }
 
 fn text_and_numbers(alloc: Global, text: &ConstantValue, lines: &mut Lines) -> Result<(), Stopped> {
-    lines.begin("a text a1, with 1 behind it, with -20 before it, with itself behind it")?;
-    push_sum(alloc, text, &ConstantValue::Number(1), lines)?;
-    push_sum(alloc, &ConstantValue::Number(-20), text, lines)?;
-    push_sum(alloc, text, text, lines)?;
-    lines.end()?;
+    lines.begin("a text a1, with 1 behind it, with -20 before it, with itself behind it");
+    all_well(&[
+        push_sum(alloc, text, &ConstantValue::Number(1), lines),
+        push_sum(alloc, &ConstantValue::Number(-20), text, lines),
+        push_sum(alloc, text, text, lines),
+    ])?;
+    lines.end();
     Ok(())
 }
 
@@ -107,24 +110,24 @@ fn push_sum(
     lines: &mut Lines,
 ) -> Result<(), Stopped> {
     let sum = BinaryOperator::Add.apply(alloc, left, right)?;
-    push_constant(sum.as_ref(), lines)?;
+    push_constant(sum.as_ref(), lines);
     Ok(())
 }
 
 /// The operators that have an answer where an operand is a text.
 fn not_of_texts(alloc: Global, text: &ConstantValue, lines: &mut Lines) -> Result<(), Stopped> {
-    lines.begin("operators on a text: of two operands, of one")?;
+    lines.begin("operators on a text: of two operands, of one");
     for operator in BinaryOperator::all() {
         if takes_texts(alloc, *operator, text)? {
-            lines.value(operator.text())?;
+            lines.value(operator.text());
         }
     }
     for operator in UnaryOperator::all() {
         if operator.apply(text).is_some() {
-            lines.value(operator.text())?;
+            lines.value(operator.text());
         }
     }
-    lines.end()?;
+    lines.end();
     Ok(())
 }
 
@@ -140,23 +143,23 @@ fn takes_texts(
     Ok(is_left || is_right)
 }
 
-fn no_operators(lines: &mut Lines) -> Result<(), Stopped> {
+fn no_operators(lines: &mut Lines) {
     let found = [
         BinaryOperator::find("&&").is_some(),
         UnaryOperator::find("!").is_some(),
     ];
-    lines.answers("&& and ! are operators on constants", &found)
+    lines.answers("&& and ! are operators on constants", &found);
 }
 
 // ---- flags
 
-fn flags(lines: &mut Lines) -> Result<(), Stopped> {
+fn flags(lines: &mut Lines) {
     let symbol = SymbolFlags::BlockScopedVariable.union(SymbolFlags::ConstVariable);
     let answers = [
         symbol.contains(SymbolFlags::ConstVariable),
         symbol.intersects(SymbolFlags::Class),
     ];
-    lines.answers("a const is a ConstVariable, is a Class", &answers)?;
+    lines.answers("a const is a ConstVariable, is a Class", &answers);
     let mut reference = ReferenceFlags::Read;
     reference.insert(ReferenceFlags::Write);
     let bits = [
@@ -167,13 +170,13 @@ fn flags(lines: &mut Lines) -> Result<(), Stopped> {
     lines.numbers(
         "the bits of a const, of a use that reads and writes, of EnumBody",
         &bits,
-    )?;
+    );
     let all = [
         u64::from(SymbolFlags::all().bits()),
         u64::from(ScopeFlags::all().bits()),
         u64::from(ReferenceFlags::all().bits()),
     ];
-    lines.numbers("all flags of symbols, of scopes, of references", &all)
+    lines.numbers("all flags of symbols, of scopes, of references", &all);
 }
 
 /// The bits of the flag of that name.

@@ -4,7 +4,7 @@ use oxt_json::{ReadFault, read_tree, write_tree};
 use oxt_lines::lines::Lines;
 use oxt_lines::nodes::tree_of;
 use oxt_lines::source::outline_of;
-use oxt_lines::stopped::Stopped;
+use oxt_lines::stopped::{Stopped, all_well};
 use oxt_lines::table::Table;
 use oxt_tree::tree::Program;
 use std::alloc::Global;
@@ -18,17 +18,19 @@ pub fn print_texts(alloc: Global, table: &Table, lines: &mut Lines) -> Result<()
         let text = text.as_str().unwrap_or("");
         print_outcome(alloc, text, text.as_bytes(), lines)?;
     }
-    print_outcome(alloc, "an empty text", b"", lines)?;
-    print_outcome(
-        alloc,
-        "a text with a byte that is none of UTF-8",
-        b"\"\xff\"",
-        lines,
-    )?;
-    print_nested(alloc, "127 arrays in one another", ("", 127, ""), lines)?;
-    print_nested(alloc, "128 arrays in one another", ("", 128, ""), lines)?;
-    print_nested(alloc, "126 as a body", (BODY, 126, "}"), lines)?;
-    print_nested(alloc, "127 as a body", (BODY, 127, "}"), lines)?;
+    all_well(&[
+        print_outcome(alloc, "an empty text", b"", lines),
+        print_outcome(
+            alloc,
+            "a text with a byte that is none of UTF-8",
+            b"\"\xff\"",
+            lines,
+        ),
+        print_nested(alloc, "127 arrays in one another", ("", 127, ""), lines),
+        print_nested(alloc, "128 arrays in one another", ("", 128, ""), lines),
+        print_nested(alloc, "126 as a body", (BODY, 126, "}"), lines),
+        print_nested(alloc, "127 as a body", (BODY, 127, "}"), lines),
+    ])?;
     for text in table.rows("written") {
         print_written(alloc, text.as_str().unwrap_or(""), lines)?;
     }
@@ -42,19 +44,19 @@ fn print_outcome(
     bytes: &[u8],
     lines: &mut Lines,
 ) -> Result<(), Stopped> {
-    lines.begin(label)?;
+    lines.begin(label);
     match read_tree(alloc, bytes) {
-        Ok(_) => lines.value("tree")?,
+        Ok(_) => lines.value("tree"),
         Err(fault) => push_fault(alloc, &fault, lines)?,
     }
-    lines.end()?;
+    lines.end();
     Ok(())
 }
 
 /// Adds the text of why the bytes are no tree.
 fn push_fault(alloc: Global, fault: &ReadFault, lines: &mut Lines) -> Result<(), Stopped> {
     let text = format!(in alloc; "{fault}")?;
-    lines.value(text.as_str())?;
+    lines.value(text.as_str());
     Ok(())
 }
 
@@ -87,7 +89,8 @@ fn print_written(alloc: Global, text: &str, lines: &mut Lines) -> Result<(), Sto
     let program = tree_of(alloc, text.as_bytes())?;
     let bytes = write_tree(alloc, &program)?;
     let written = String::from_utf8_lossy(alloc, bytes.as_slice())?;
-    lines.text("written", written.as_str())
+    lines.text("written", written.as_str());
+    Ok(())
 }
 
 fn print_numbers(alloc: Global, table: &Table, lines: &mut Lines) -> Result<(), Stopped> {
@@ -98,6 +101,7 @@ fn print_numbers(alloc: Global, table: &Table, lines: &mut Lines) -> Result<(), 
 /// A line with the nodes of the program, and one with the next number.
 fn print_program(alloc: Global, program: &Program, lines: &mut Lines) -> Result<(), Stopped> {
     let text = outline_of(alloc, &program.root)?;
-    lines.text("read", text.as_str())?;
-    lines.numbers("the next number", &[program.ids.next])
+    lines.text("read", text.as_str());
+    lines.numbers("the next number", &[program.ids.next]);
+    Ok(())
 }

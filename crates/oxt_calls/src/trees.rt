@@ -5,7 +5,7 @@ use oxt_grammar::kind::Kind;
 use oxt_lines::lines::Lines;
 use oxt_lines::nodes::{first_expression, named, node, statement_at};
 use oxt_lines::source::outline_of;
-use oxt_lines::stopped::Stopped;
+use oxt_lines::stopped::{Stopped, all_well};
 use oxt_lines::table::Table;
 use oxt_names::ids::NodeIds;
 use oxt_names::name::Name;
@@ -15,14 +15,16 @@ use std::alloc::Global;
 
 /// The calls on trees.
 pub fn print_trees(alloc: Global, table: &Table, lines: &mut Lines) -> Result<(), Stopped> {
-    copied(alloc, table, "a.b;", lines)?;
-    copied(alloc, table, "({ [a.b]: c });", lines)?;
-    bound(alloc, table, lines)?;
-    numbers_and_texts(alloc, lines)?;
-    wrapped(alloc, lines)?;
-    unwrapped(alloc, lines)?;
-    taken(alloc, lines)?;
-    pointers(alloc, lines)
+    all_well(&[
+        copied(alloc, table, "a.b;", lines),
+        copied(alloc, table, "({ [a.b]: c });", lines),
+        bound(alloc, table, lines),
+        numbers_and_texts(alloc, lines),
+        wrapped(alloc, lines),
+        unwrapped(alloc, lines),
+        taken(alloc, lines),
+        pointers(alloc, lines),
+    ])
 }
 
 // ---- copies
@@ -41,7 +43,8 @@ fn print_copy(alloc: Global, node: &Node, lines: &mut Lines) -> Result<(), Stopp
     print_outline(alloc, node, "a tree", lines)?;
     let copy = node.clone_node(alloc, &mut ids)?;
     print_outline(alloc, &copy, "clone_node from the number 10 on", lines)?;
-    lines.numbers("the next number", &[ids.next])
+    lines.numbers("the next number", &[ids.next]);
+    Ok(())
 }
 
 /// A line with the nodes of the tree.
@@ -52,7 +55,8 @@ fn print_outline(
     lines: &mut Lines,
 ) -> Result<(), Stopped> {
     let text = outline_of(alloc, node)?;
-    lines.text(label, text.as_str())
+    lines.text(label, text.as_str());
+    Ok(())
 }
 
 // ---- names that a pattern binds
@@ -75,22 +79,23 @@ fn first_pattern(program: &Node) -> Option<&Node> {
 
 fn print_bound(alloc: Global, pattern: &Node, lines: &mut Lines) -> Result<(), Stopped> {
     let names = pattern.bound_names(alloc)?;
-    lines.begin("bound_names of { a, b: [c = d], ...e }, each with its node")?;
+    lines.begin("bound_names of { a, b: [c = d], ...e }, each with its node");
     for bound in &names {
-        lines.value(bound.name.as_str())?;
-        lines.number_value(bound.node.0)?;
+        lines.value(bound.name.as_str());
+        lines.number_value(bound.node.0);
     }
-    lines.end()?;
+    lines.end();
     Ok(())
 }
 
 fn numbers_and_texts(alloc: Global, lines: &mut Lines) -> Result<(), Stopped> {
     let mut ids = NodeIds { next: 1 };
     let first = ids.fresh()?;
-    lines.numbers("fresh from 1 on, and the next number", &[first.0, ids.next])?;
+    lines.numbers("fresh from 1 on, and the next number", &[first.0, ids.next]);
     let name = Name::from_string(String::from_str(alloc, "k")?)?;
     let shared = name.share()?;
-    lines.texts("from_string of k, share", &[name.as_str(), shared.as_str()])
+    lines.texts("from_string of k, share", &[name.as_str(), shared.as_str()]);
+    Ok(())
 }
 
 // ---- wrappers
@@ -114,7 +119,8 @@ fn wrapped(alloc: Global, lines: &mut Lines) -> Result<(), Stopped> {
     lines.texts(
         "a taken out of a!: the part, seen",
         &[part_kind(&part), part_kind(part.seen())],
-    )
+    );
+    Ok(())
 }
 
 /// What is known of a wrapper.
@@ -123,13 +129,14 @@ fn print_wrapper(part: &Part, lines: &mut Lines) -> Result<(), Stopped> {
         return Err(Stopped::NoTree);
     };
     let answers = [node.is_typescript_syntax(), node.is_mere_declaration()];
-    lines.answers("a! is_typescript_syntax, is_mere_declaration", &answers)?;
+    lines.answers("a! is_typescript_syntax, is_mere_declaration", &answers);
     let kinds = [
         node.kind.name(),
         node.get_inner_expression().kind.name(),
         part_kind(part.seen()),
     ];
-    lines.texts("its kind, get_inner_expression, seen", &kinds)
+    lines.texts("its kind, get_inner_expression, seen", &kinds);
+    Ok(())
 }
 
 /// Takes the expression that stands inside the wrapper.
@@ -150,7 +157,8 @@ fn part_kind(part: &Part) -> &'static str {
 
 fn unwrapped(alloc: Global, lines: &mut Lines) -> Result<(), Stopped> {
     let inner = wrapper(alloc)?.into_inner_expression();
-    lines.text("into_inner_expression of a!", inner.kind.name())
+    lines.text("into_inner_expression of a!", inner.kind.name());
+    Ok(())
 }
 
 // ---- taking
@@ -163,25 +171,24 @@ fn taken(alloc: Global, lines: &mut Lines) -> Result<(), Stopped> {
         &expression,
         &place,
         lines,
-    )?;
+    );
     let statement = place.take_statement(alloc);
     print_taken(
         "take_statement, and what is left",
         &statement,
         &place,
         lines,
-    )?;
+    );
     taken_part(alloc, place, lines)
 }
 
 /// The kind of what was taken, and the kind and the number of what is left.
-fn print_taken(label: &str, taken: &Node, left: &Node, lines: &mut Lines) -> Result<(), Stopped> {
-    lines.begin(label)?;
-    lines.value(taken.kind.name())?;
-    lines.value(left.kind.name())?;
-    lines.number_value(left.id.0)?;
-    lines.end()?;
-    Ok(())
+fn print_taken(label: &str, taken: &Node, left: &Node, lines: &mut Lines) {
+    lines.begin(label);
+    lines.value(taken.kind.name());
+    lines.value(left.kind.name());
+    lines.number_value(left.id.0);
+    lines.end();
 }
 
 fn taken_part(alloc: Global, inner: Node, lines: &mut Lines) -> Result<(), Stopped> {
@@ -190,17 +197,19 @@ fn taken_part(alloc: Global, inner: Node, lines: &mut Lines) -> Result<(), Stopp
     lines.texts(
         "take of a part, and what is left",
         &[part_kind(&taken), part_kind(&part)],
-    )?;
+    );
     let statement = node(Kind::ExpressionStatement, 7, vec![in alloc; part]?);
     lines.answers(
         "a statement with what is left lacks its expression",
         &[statement.lacks(Field::Expression)],
-    )
+    );
+    Ok(())
 }
 
 fn pointers(alloc: Global, lines: &mut Lines) -> Result<(), Stopped> {
     let inner = below(alloc, "init", "")?;
     let index = below_index(alloc, 10, inner.as_str())?;
     let place = below(alloc, "body", index.as_str())?;
-    lines.text("init, below it 10, below it body", place.as_str())
+    lines.text("init, below it 10, below it body", place.as_str());
+    Ok(())
 }

@@ -60,7 +60,8 @@ pub fn print_visits(alloc: Global, table: &Table, lines: &mut Lines) -> Result<(
     let program = table.tree(alloc, "f(a, b); { c; }")?;
     let mut statements = statements_of(program)?;
     let counts = counts_in(alloc, &mut statements)?;
-    print_counts(&counts, lines)
+    print_counts(&counts, lines);
+    Ok(())
 }
 
 /// The statements of the program.
@@ -84,10 +85,10 @@ fn counts_in(alloc: Global, statements: &mut Vec<Part>) -> Result<Counts, Stoppe
 }
 
 /// A line of what was met.
-fn print_counts(counts: &Counts, lines: &mut Lines) -> Result<(), Stopped> {
+fn print_counts(counts: &Counts, lines: &mut Lines) {
     lines.numbers(
         "expressions in the statements of f(a, b); { c; }, scopes left",
         &[counts.expressions, counts.left],
-    )?;
-    lines.numbers("the nodes of the scopes entered", counts.entered.as_slice())
+    );
+    lines.numbers("the nodes of the scopes entered", counts.entered.as_slice());
 }

@@ -8,18 +8,20 @@ use oxt_facts::told::ToldBlock;
 use oxt_grammar::kind::Kind;
 use oxt_grammar::word::Word;
 use oxt_lines::lines::Lines;
-use oxt_lines::stopped::Stopped;
+use oxt_lines::stopped::{Stopped, all_well};
 use oxt_names::name::Name;
 use std::alloc::Global;
 use std::slice;
 
 /// The first differences of words.
 pub fn print_words(alloc: Global, lines: &mut Lines) -> Result<(), Stopped> {
-    differences(alloc, lines)?;
-    word_and_text(alloc, lines)?;
-    numbered(alloc, lines)?;
-    owners_alone(alloc, lines)?;
-    inside_block(alloc, lines)
+    all_well(&[
+        differences(alloc, lines),
+        word_and_text(alloc, lines),
+        numbered(alloc, lines),
+        owners_alone(alloc, lines),
+        inside_block(alloc, lines),
+    ])
 }
 
 fn item(alloc: Global, kind: ItemKind, spelling: Atom, detail: Atom) -> Result<Item, Stopped> {
@@ -61,7 +63,8 @@ fn place(source: &[Item], output: &[Item]) -> Option<u64> {
 fn differences(alloc: Global, lines: &mut Lines) -> Result<(), Stopped> {
     let source = word(alloc, "x", false)?;
     print_differences(alloc, source.as_slice(), lines)?;
-    print_ends(source.as_slice(), lines)
+    print_ends(source.as_slice(), lines);
+    Ok(())
 }
 
 /// The places at which others differ from the word of `let x` and a field that is read.
@@ -74,7 +77,8 @@ fn print_differences(alloc: Global, source: &[Item], lines: &mut Lines) -> Resul
     lines.options(
         "the first difference of let x, get: from itself, from let y, get, from let x, ?.get",
         &found,
-    )
+    );
+    Ok(())
 }
 
 /// The place at which the word differs from that one.
@@ -89,19 +93,18 @@ fn place_beside(
 }
 
 /// The places where one of the words has ended, and what stands there.
-fn print_ends(source: &[Item], lines: &mut Lines) -> Result<(), Stopped> {
+fn print_ends(source: &[Item], lines: &mut Lines) {
     let short = &source[..source.len().min(1)];
     lines.options(
         "from let x alone, of no items",
         &[place(source, short), place(&[], source)],
-    )?;
+    );
     if let Some(difference) = first_difference(source, short) {
         lines.texts(
             "what stands there in the source and in the output",
             &[kind_name(difference.source), kind_name(difference.output)],
-        )?;
+        );
     }
-    Ok(())
 }
 
 /// The name of the item's kind.
@@ -125,7 +128,8 @@ fn compared(alloc: Global, first: Item, second: Item, lines: &mut Lines) -> Resu
     let first = vec![in alloc; first]?;
     let second = vec![in alloc; second]?;
     let found = place(first.as_slice(), second.as_slice());
-    lines.options("the text js beside the word js", &[found])
+    lines.options("the text js beside the word js", &[found]);
+    Ok(())
 }
 
 /// `let x` of that group.
@@ -146,17 +150,17 @@ fn declared(alloc: Global) -> Result<Vec<Item>, Stopped> {
 fn numbered(alloc: Global, lines: &mut Lines) -> Result<(), Stopped> {
     let mut items = declared(alloc)?;
     number_groups(alloc, &mut items)?;
-    print_numbers(items.as_slice(), lines)
+    print_numbers(items.as_slice(), lines);
+    Ok(())
 }
 
 /// A line with the groups of the items.
-fn print_numbers(items: &[Item], lines: &mut Lines) -> Result<(), Stopped> {
-    lines.begin("the groups 9, 4, 9 in a word, numbered")?;
+fn print_numbers(items: &[Item], lines: &mut Lines) {
+    lines.begin("the groups 9, 4, 9 in a word, numbered");
     for item in items {
-        lines.option_value(item.group)?;
+        lines.option_value(item.group);
     }
-    lines.end()?;
-    Ok(())
+    lines.end();
 }
 
 fn owners_alone(alloc: Global, lines: &mut Lines) -> Result<(), Stopped> {
@@ -167,7 +171,8 @@ fn owners_alone(alloc: Global, lines: &mut Lines) -> Result<(), Stopped> {
     lines.answers(
         "let x of the group 9, beside that of 4, beside a field: in owners alone",
         &answers,
-    )
+    );
+    Ok(())
 }
 
 /// Whether the two items differ in owners alone.
@@ -191,7 +196,8 @@ fn inside_block(alloc: Global, lines: &mut Lines) -> Result<(), Stopped> {
             inside.group_here(Some(5)),
             inside.group_here(None),
         ],
-    )
+    );
+    Ok(())
 }
 
 /// The block 8 of the enum `E` of group 3.

@@ -55,3 +55,11 @@ impl<T: Drop> From<Refused<T>> for Stopped {
         Stopped::Memory
     }
 }
+
+/// The first that failed of what was done one after the other, where nothing that comes later needs what comes before.
+pub fn all_well(outcomes: &[Result<(), Stopped>]) -> Result<(), Stopped> {
+    for outcome in outcomes {
+        (*outcome)?;
+    }
+    Ok(())
+}

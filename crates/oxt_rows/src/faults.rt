@@ -59,7 +59,8 @@ fn tell(alloc: Global, fault: &Fault, lines: &mut Lines) -> Result<(), Stopped> 
 /// The text of a fault.
 fn tell_text(alloc: Global, fault: &Fault, lines: &mut Lines) -> Result<(), Stopped> {
     let text = format!(in alloc; "{fault}")?;
-    lines.text("a fault", text.as_str())
+    lines.text("a fault", text.as_str());
+    Ok(())
 }
 
 /// The line that names a fault, which ends with a line feed of its own.
@@ -68,4 +69,5 @@ fn tell_line(alloc: Global, fault: &Fault, lines: &mut Lines) -> Result<(), Stop
         Some(line) => lines.text("its line", line.as_str()),
         None => lines.text("its line", "none"),
     }
+    Ok(())
 }

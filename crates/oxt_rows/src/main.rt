@@ -32,7 +32,7 @@ fn main(rt: HostRuntime) -> Result<()> {
     run_cases(&rt, &table)?;
     let mut source = ReaderSource::new(rt.stdin());
     let lines = lines_of_calls(rt.alloc(), &mut source)?;
-    let text = lines.as_str();
+    let text = lines.as_str()?;
     print!(rt; "{text}")?;
     Ok(())
 }

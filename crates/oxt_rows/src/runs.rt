@@ -26,7 +26,8 @@ fn sure(alloc: Global, table: &Table, lines: &mut Lines) -> Result<(), Stopped> 
     lines.numbers(
         "a run over a sure source and sure sinks: its status",
         &[u64::from(status)],
-    )
+    );
+    Ok(())
 }
 
 /// The status of a run over the source.
@@ -93,9 +94,9 @@ fn print_mismatch(
     lines: &mut Lines,
 ) -> Result<(), Stopped> {
     let mismatch = find_mismatch(alloc, expected, root)?;
-    let printed = lines.text(label, text_of(&mismatch));
+    lines.text(label, text_of(&mismatch));
     drop(mismatch);
-    printed
+    Ok(())
 }
 
 /// The place of the setting that is wrong, or what is wrong else.

@@ -33,7 +33,7 @@ struct Walked {
 pub fn print_walked(alloc: Global, table: &Table, lines: &mut Lines) -> Result<(), Stopped> {
     lines.heading(
         "read, resolved, checked, walked over and written: whether these are the bytes of the one call, nothing waits and no list is open",
-    )?;
+    );
     let defaults = TransformOptions::defaults(alloc)?;
     print_case(alloc, table, "parameter properties", defaults, lines)?;
     let fields = with_fields(alloc)?;
@@ -70,7 +70,8 @@ fn print_case(
 ) -> Result<(), Stopped> {
     let answers = answers_of(alloc, table, name, &options);
     drop(options);
-    lines.answers(name, &answers?)
+    lines.answers(name, &answers?);
+    Ok(())
 }
 
 /// Whether the walk over the tree of that name makes the bytes of the one call, nothing waits and no list is open.
