@@ -2,8 +2,8 @@
 
 use oxt_ctx::context::TraverseCtx;
 use oxt_names::ids::OutOfMemory;
-use oxt_traverse::hook::Hook;
-use oxt_traverse::pass::Pass;
+use oxt_pass::hook::Hook;
+use oxt_pass::pass::Pass;
 use oxt_tree::tree::{Node, Part};
 use std::alloc::Global;
 

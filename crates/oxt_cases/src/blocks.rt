@@ -1,6 +1,6 @@
 //! Blocks of enums and namespaces.
 
-use crate::pieces::{Piece, put};
+use crate::pieces::{Lines, Piece};
 use oxt_enum_checks::blocks::blocks_of;
 use oxt_enum_checks::first::first_blocks;
 use oxt_enum_checks::merges::merge_faults;
@@ -16,7 +16,7 @@ use std::alloc::Global;
 /// # Errors
 ///
 /// Fails only where memory runs out.
-pub fn put_first(alloc: Global, program: &Node, lines: &mut String) -> Result<(), OutOfMemory> {
+pub fn put_first(alloc: Global, program: &Node, lines: &mut Lines) -> Result<(), OutOfMemory> {
     let scoping = resolve(alloc, program, false)?;
     let outcome = put_first_by(alloc, program, &scoping, lines);
     drop(scoping);
@@ -28,10 +28,13 @@ fn put_first_by(
     alloc: Global,
     program: &Node,
     scoping: &Scoping,
-    lines: &mut String,
+    lines: &mut Lines,
 ) -> Result<(), OutOfMemory> {
     let first = first_of(alloc, program, scoping)?;
-    put_numbers(first.as_slice(), lines)
+    for block in &first {
+        put_number(block.0, lines);
+    }
+    Ok(())
 }
 
 /// The blocks before which nothing of their name emits code.
@@ -51,17 +54,9 @@ pub fn first_of(
     first
 }
 
-/// Puts the numbers, a line each.
-fn put_numbers(numbers: &[NodeId], lines: &mut String) -> Result<(), OutOfMemory> {
-    for number in numbers {
-        put_number(number.0, lines)?;
-    }
-    Ok(())
-}
-
 /// Puts a number as a line.
-fn put_number(number: u64, lines: &mut String) -> Result<(), OutOfMemory> {
-    put(lines, &[Piece::Number(number), Piece::Text("\n")])
+fn put_number(number: u64, lines: &mut Lines) {
+    lines.put(&[Piece::Number(number), Piece::Text("\n")]);
 }
 
 /// Puts the number of the first declaration that clashes with one before it, or `-`.
@@ -69,7 +64,7 @@ fn put_number(number: u64, lines: &mut String) -> Result<(), OutOfMemory> {
 /// # Errors
 ///
 /// Fails only where memory runs out.
-pub fn put_clash(alloc: Global, program: &Node, lines: &mut String) -> Result<(), OutOfMemory> {
+pub fn put_clash(alloc: Global, program: &Node, lines: &mut Lines) -> Result<(), OutOfMemory> {
     let scoping = resolve(alloc, program, false)?;
     let outcome = put_clash_by(alloc, program, &scoping, lines);
     drop(scoping);
@@ -81,7 +76,7 @@ fn put_clash_by(
     alloc: Global,
     program: &Node,
     scoping: &Scoping,
-    lines: &mut String,
+    lines: &mut Lines,
 ) -> Result<(), OutOfMemory> {
     let blocks = blocks_of(alloc, program)?;
     let places = Places::of_tree(alloc, program)?;
@@ -89,6 +84,7 @@ fn put_clash_by(
     drop(places);
     match faults?.clash {
         Some(number) => put_number(number.0, lines),
-        None => put(lines, &[Piece::Text("-\n")]),
+        None => lines.put(&[Piece::Text("-\n")]),
     }
+    Ok(())
 }

@@ -5,6 +5,7 @@
 //! public fields are set by assignment, `drops` where empty ones are removed, `module` and `rewrite` as on the
 //! command line, and `wanted`, a list with a value for each line that is wanted: a text, or what a line has as JSON.
 
+use crate::pieces::{Lines, Piece};
 use crate::trees::Trees;
 use anyhow::{Context, Result};
 use serde_json::Value;
@@ -51,19 +52,13 @@ impl<'a> Case<'a> {
 
 /// The values, a line each: a text as it is, and another value as JSON.
 fn joined(alloc: Global, values: &[Value]) -> Result<String, AllocError> {
-    let mut lines = String::new(alloc);
+    let mut lines = Lines::new(alloc);
     for value in values {
         match value.as_str() {
-            Some(text) => lines.push_str(text)?,
-            None => put_json(alloc, value, &mut lines)?,
+            Some(text) => lines.put(&[Piece::Text(text)]),
+            None => lines.put_json(value),
         }
-        lines.push('\n')?;
+        lines.put(&[Piece::Text("\n")]);
     }
-    Ok(lines)
-}
-
-/// Puts the JSON of a value.
-pub fn put_json(alloc: Global, value: &Value, lines: &mut String) -> Result<(), AllocError> {
-    let text = value.to_string(alloc)?;
-    lines.push_str(text.as_str())
+    lines.into_string()
 }

@@ -1,6 +1,6 @@
 //! What stands in the way of lowering classes.
 
-use crate::pieces::{Piece, put};
+use crate::pieces::{Lines, Piece};
 use crate::told::plan_of;
 use oxt_class_checks::misplaced::{ClassFault, MisplacedElement, first_misplaced_element};
 use oxt_faults::moved::{MovedName, first_moved_capture};
@@ -22,7 +22,7 @@ pub fn put_lines(
     alloc: Global,
     program: &Node,
     options: &TransformOptions,
-    lines: &mut String,
+    lines: &mut Lines,
 ) -> Result<(), OutOfMemory> {
     let scoping = resolve(alloc, program, options.decorator.legacy)?;
     let outcome = put_by(alloc, program, &scoping, options, lines);
@@ -36,7 +36,7 @@ fn put_by(
     program: &Node,
     scoping: &Scoping,
     options: &TransformOptions,
-    lines: &mut String,
+    lines: &mut Lines,
 ) -> Result<(), OutOfMemory> {
     let plan = plan_of(alloc, program, scoping, options)?;
     let rules = FieldRules::new(options, &plan);
@@ -51,14 +51,15 @@ fn put_found(
     program: &Node,
     scoping: &Scoping,
     rules: FieldRules,
-    lines: &mut String,
+    lines: &mut Lines,
 ) -> Result<(), OutOfMemory> {
-    put_misplaced(first_misplaced_element(alloc, program, rules)?, lines)?;
-    put_captured(first_moved_capture(alloc, program, scoping, rules)?, lines)
+    put_misplaced(first_misplaced_element(alloc, program, rules)?, lines);
+    put_captured(first_moved_capture(alloc, program, scoping, rules)?, lines);
+    Ok(())
 }
 
 /// Puts the line of the misplaced element.
-fn put_misplaced(found: Option<MisplacedElement>, lines: &mut String) -> Result<(), OutOfMemory> {
+fn put_misplaced(found: Option<MisplacedElement>, lines: &mut Lines) {
     match found {
         Some(MisplacedElement { fault, node }) => {
             let line = [
@@ -67,9 +68,9 @@ fn put_misplaced(found: Option<MisplacedElement>, lines: &mut String) -> Result<
                 Piece::Node(node),
                 Piece::Text("\n"),
             ];
-            put(lines, &line)
+            lines.put(&line);
         }
-        None => put(lines, &[Piece::Text("misplaced -\n")]),
+        None => lines.put(&[Piece::Text("misplaced -\n")]),
     }
 }
 
@@ -84,7 +85,7 @@ fn word_of(fault: ClassFault) -> &'static str {
 }
 
 /// Puts the line of the captured name.
-fn put_captured(found: Option<MovedName>, lines: &mut String) -> Result<(), OutOfMemory> {
+fn put_captured(found: Option<MovedName>, lines: &mut Lines) {
     match found {
         Some(MovedName { name, node }) => {
             let line = [
@@ -93,8 +94,8 @@ fn put_captured(found: Option<MovedName>, lines: &mut String) -> Result<(), OutO
                 Piece::Node(node),
                 Piece::Text("\n"),
             ];
-            put(lines, &line)
+            lines.put(&line);
         }
-        None => put(lines, &[Piece::Text("captured -\n")]),
+        None => lines.put(&[Piece::Text("captured -\n")]),
     }
 }

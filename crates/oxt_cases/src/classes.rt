@@ -1,18 +1,13 @@
 //! What is told of classes and of their fields.
 
 use crate::decorated::put_call_of;
-use crate::pieces::{Piece, put};
+use crate::pieces::{Lines, Piece};
 use oxt_facts::told::{ToldClass, ToldField, ToldName};
-use oxt_names::ids::OutOfMemory;
 use oxt_names::name::Name;
 
 /// Puts `NUMBER gains PLACE constructor derived`, and behind that the names of its properties, and of the fields that
 /// stand in front, each with a star.
-///
-/// # Errors
-///
-/// Fails only where memory runs out.
-pub fn put_gains(number: u64, gaining: &ToldClass, lines: &mut String) -> Result<(), OutOfMemory> {
+pub fn put_gains(number: u64, gaining: &ToldClass, lines: &mut Lines) {
     let front = [
         Piece::Number(number),
         Piece::Text(" gains "),
@@ -20,47 +15,37 @@ pub fn put_gains(number: u64, gaining: &ToldClass, lines: &mut String) -> Result
         Piece::If(gaining.has_constructor, " constructor"),
         Piece::If(gaining.is_derived, " derived"),
     ];
-    put(lines, &front)?;
-    put_told_names(gaining.properties.as_slice(), lines)?;
-    put_alias(gaining.alias.as_ref(), lines)?;
-    put(lines, &[Piece::If(gaining.has_calls, " calls")])?;
-    put_fields(gaining.fields.as_slice(), lines)
+    lines.put(&front);
+    put_told_names(gaining.properties.as_slice(), lines);
+    put_alias(gaining.alias.as_ref(), lines);
+    lines.put(&[Piece::If(gaining.has_calls, " calls")]);
+    put_fields(gaining.fields.as_slice(), lines);
 }
 
 /// Puts the names, each behind a space.
-///
-/// # Errors
-///
-/// Fails only where memory runs out.
-pub fn put_told_names(names: &[ToldName], lines: &mut String) -> Result<(), OutOfMemory> {
+pub fn put_told_names(names: &[ToldName], lines: &mut Lines) {
     for told in names {
-        put(lines, &[Piece::Word(told.name.as_str())])?;
+        lines.put(&[Piece::Word(told.name.as_str())]);
     }
-    Ok(())
 }
 
 /// Puts the alias of a class, if it has one.
-fn put_alias(alias: Option<&Name>, lines: &mut String) -> Result<(), OutOfMemory> {
-    match alias {
-        Some(alias) => put(lines, &[Piece::Text(" alias"), Piece::Word(alias.as_str())]),
-        None => Ok(()),
+fn put_alias(alias: Option<&Name>, lines: &mut Lines) {
+    if let Some(alias) = alias {
+        lines.put(&[Piece::Text(" alias"), Piece::Word(alias.as_str())]);
     }
 }
 
 /// Puts the names of the fields that stand in front, and the end of the line.
-fn put_fields(fields: &[Name], lines: &mut String) -> Result<(), OutOfMemory> {
+fn put_fields(fields: &[Name], lines: &mut Lines) {
     for field in fields {
-        put(lines, &[Piece::Word("*"), Piece::Text(field.as_str())])?;
+        lines.put(&[Piece::Word("*"), Piece::Text(field.as_str())]);
     }
-    put(lines, &[Piece::Text("\n")])
+    lines.put(&[Piece::Text("\n")]);
 }
 
 /// Puts `NUMBER moves static stays TAG last`, with `-` where its key is not kept, and the call, if it gives one.
-///
-/// # Errors
-///
-/// Fails only where memory runs out.
-pub fn put_moves(number: u64, moving: &ToldField, lines: &mut String) -> Result<(), OutOfMemory> {
+pub fn put_moves(number: u64, moving: &ToldField, lines: &mut Lines) {
     let front = [
         Piece::Number(number),
         Piece::Text(" moves"),
@@ -69,7 +54,7 @@ pub fn put_moves(number: u64, moving: &ToldField, lines: &mut String) -> Result<
         Piece::Name(moving.tag.as_ref()),
         Piece::If(moving.is_last, " last"),
     ];
-    put(lines, &front)?;
-    put_call_of(moving.call.as_ref(), lines)?;
-    put(lines, &[Piece::Text("\n")])
+    lines.put(&front);
+    put_call_of(moving.call.as_ref(), lines);
+    lines.put(&[Piece::Text("\n")]);
 }

@@ -1,6 +1,6 @@
 //! Where words differ.
 
-use crate::pieces::{Piece, put};
+use crate::pieces::{Lines, Piece};
 use crate::words::{facts_of_output, facts_with, put_grouped_item, put_item, word_by};
 use oxt_facts::compare::{Difference, first_difference};
 use oxt_facts::item::Item;
@@ -20,7 +20,7 @@ pub fn put_lines(
     alloc: Global,
     source: &Node,
     output: &Node,
-    lines: &mut String,
+    lines: &mut Lines,
 ) -> Result<(), OutOfMemory> {
     let facts = facts_of_output(alloc, source, output)?;
     let output = word_by(facts, output)?;
@@ -32,7 +32,7 @@ fn put_against(
     alloc: Global,
     source: &Node,
     output: &[Item],
-    lines: &mut String,
+    lines: &mut Lines,
 ) -> Result<(), OutOfMemory> {
     let facts = facts_with(alloc, source, ToldNodes::new(alloc))?;
     let source = word_by(facts, source)?;
@@ -44,11 +44,14 @@ fn put_first(
     alloc: Global,
     source: &[Item],
     output: &[Item],
-    lines: &mut String,
+    lines: &mut Lines,
 ) -> Result<(), OutOfMemory> {
     match first_difference(source, output) {
         Some(difference) => put_difference(alloc, &difference, lines),
-        None => put(lines, &[Piece::Text("same\n")]),
+        None => {
+            lines.put(&[Piece::Text("same\n")]);
+            Ok(())
+        }
     }
 }
 
@@ -56,7 +59,7 @@ fn put_first(
 fn put_difference(
     alloc: Global,
     difference: &Difference,
-    lines: &mut String,
+    lines: &mut Lines,
 ) -> Result<(), OutOfMemory> {
     let is_of_owners = difference.is_of_owners();
     let line = [
@@ -64,7 +67,7 @@ fn put_difference(
         Piece::If(is_of_owners, " owner"),
         Piece::Text("\n"),
     ];
-    put(lines, &line)?;
+    lines.put(&line);
     put_line(alloc, difference.source, is_of_owners, lines)?;
     put_line(alloc, difference.output, is_of_owners, lines)
 }
@@ -74,11 +77,14 @@ fn put_line(
     alloc: Global,
     item: Option<&Item>,
     is_grouped: bool,
-    lines: &mut String,
+    lines: &mut Lines,
 ) -> Result<(), OutOfMemory> {
     match item {
         Some(item) if is_grouped => put_grouped_item(alloc, item, lines),
         Some(item) => put_item(alloc, item, lines),
-        None => put(lines, &[Piece::Text("-\n")]),
+        None => {
+            lines.put(&[Piece::Text("-\n")]);
+            Ok(())
+        }
     }
 }

@@ -1,7 +1,7 @@
 //! What is looked up of enums.
 
-use crate::constants::{enums_of, put_value};
-use crate::pieces::{Piece, put, put_nodes};
+use crate::constants::enums_of;
+use crate::pieces::{Lines, Piece};
 use oxt_enums::blocks::{EnumBlock, blocks_of};
 use oxt_enums::enums::EnumConstants;
 use oxt_enums::members::{Member, members_of};
@@ -72,7 +72,7 @@ fn names_of_members<'a>(
 /// # Errors
 ///
 /// Fails only where memory runs out.
-pub fn put_lines(alloc: Global, program: &Program, lines: &mut String) -> Result<(), OutOfMemory> {
+pub fn put_lines(alloc: Global, program: &Program, lines: &mut Lines) -> Result<(), OutOfMemory> {
     let scopes = scopes_of(alloc, &program.root, false)?;
     put_by(alloc, program, scopes.as_slice(), lines)
 }
@@ -82,7 +82,7 @@ fn put_by<'a>(
     alloc: Global,
     program: &'a Program,
     scopes: &[OpenedScope<'a>],
-    lines: &mut String,
+    lines: &mut Lines,
 ) -> Result<(), OutOfMemory> {
     let enums = enums_of(alloc, &program.root, scopes)?;
     let outcome = put_all(alloc, program, scopes, &enums, lines);
@@ -96,11 +96,12 @@ fn put_all<'a>(
     program: &'a Program,
     scopes: &[OpenedScope<'a>],
     enums: &EnumConstants<'a>,
-    lines: &mut String,
+    lines: &mut Lines,
 ) -> Result<(), OutOfMemory> {
     put_parts(alloc, &program.root, scopes, enums, lines)?;
-    put_values(alloc, program.ids.next, enums, lines)?;
-    put_count(enums, lines)
+    put_values(program.ids.next, enums, lines);
+    put_count(enums, lines);
+    Ok(())
 }
 
 /// Puts the lines of the members and of the blocks, and what is looked up by their names.
@@ -109,10 +110,10 @@ fn put_parts<'a>(
     program: &'a Node,
     scopes: &[OpenedScope<'a>],
     enums: &EnumConstants<'a>,
-    lines: &mut String,
+    lines: &mut Lines,
 ) -> Result<(), OutOfMemory> {
     let members = members_of(alloc, program)?;
-    put_members(members.as_slice(), lines)?;
+    put_members(members.as_slice(), lines);
     put_found(alloc, scopes, members.as_slice(), enums, lines)
 }
 
@@ -122,10 +123,10 @@ fn put_found<'a>(
     scopes: &[OpenedScope<'a>],
     members: &[Member<'a>],
     enums: &EnumConstants<'a>,
-    lines: &mut String,
+    lines: &mut Lines,
 ) -> Result<(), OutOfMemory> {
     let blocks = blocks_of(alloc, scopes)?;
-    put_blocks(blocks.as_slice(), lines)?;
+    put_blocks(blocks.as_slice(), lines);
     put_by_names(alloc, scopes, members, blocks.as_slice(), enums, lines)
 }
 
@@ -136,37 +137,24 @@ fn put_by_names<'a>(
     members: &[Member<'a>],
     blocks: &[EnumBlock<'a>],
     enums: &EnumConstants<'a>,
-    lines: &mut String,
+    lines: &mut Lines,
 ) -> Result<(), OutOfMemory> {
     let names = Names::of(alloc, members, blocks)?;
-    let outcome = put_looked_up(alloc, scopes, blocks, &names, enums, lines);
+    put_bodies(blocks, &names, enums, lines);
+    put_scopes(scopes, &names, enums, lines);
     drop(names);
-    outcome
-}
-
-/// Puts what is looked up in bodies and in scopes by these names.
-fn put_looked_up(
-    alloc: Global,
-    scopes: &[OpenedScope],
-    blocks: &[EnumBlock],
-    names: &Names,
-    enums: &EnumConstants,
-    lines: &mut String,
-) -> Result<(), OutOfMemory> {
-    put_bodies(alloc, blocks, names, enums, lines)?;
-    put_scopes(alloc, scopes, names, enums, lines)
-}
-
-/// Puts the lines of the members.
-fn put_members(members: &[Member], lines: &mut String) -> Result<(), OutOfMemory> {
-    for member in members {
-        put_member(member, lines)?;
-    }
     Ok(())
 }
 
+/// Puts the lines of the members.
+fn put_members(members: &[Member], lines: &mut Lines) {
+    for member in members {
+        put_member(member, lines);
+    }
+}
+
 /// Puts the line of a member.
-fn put_member(member: &Member, lines: &mut String) -> Result<(), OutOfMemory> {
+fn put_member(member: &Member, lines: &mut Lines) {
     let line = [
         Piece::Text("member"),
         Piece::Node(member.node.id),
@@ -175,19 +163,18 @@ fn put_member(member: &Member, lines: &mut String) -> Result<(), OutOfMemory> {
         Piece::Maybe(member.place.previous.map(|node| node.0)),
         Piece::Text("\n"),
     ];
-    put(lines, &line)
+    lines.put(&line);
 }
 
 /// Puts the lines of the blocks.
-fn put_blocks(blocks: &[EnumBlock], lines: &mut String) -> Result<(), OutOfMemory> {
+fn put_blocks(blocks: &[EnumBlock], lines: &mut Lines) {
     for block in blocks {
-        put_block(block, lines)?;
+        put_block(block, lines);
     }
-    Ok(())
 }
 
 /// Puts the line of a block.
-fn put_block(block: &EnumBlock, lines: &mut String) -> Result<(), OutOfMemory> {
+fn put_block(block: &EnumBlock, lines: &mut Lines) {
     let line = [
         Piece::Text("block"),
         Piece::Node(block.body),
@@ -197,197 +184,131 @@ fn put_block(block: &EnumBlock, lines: &mut String) -> Result<(), OutOfMemory> {
         Piece::If(block.is_emitted, " emitted"),
         Piece::Text("\n"),
     ];
-    put(lines, &line)
+    lines.put(&line);
 }
 
 /// Puts the lines of what is looked up in bodies.
-fn put_bodies(
-    alloc: Global,
-    blocks: &[EnumBlock],
-    names: &Names,
-    enums: &EnumConstants,
-    lines: &mut String,
-) -> Result<(), OutOfMemory> {
+fn put_bodies(blocks: &[EnumBlock], names: &Names, enums: &EnumConstants, lines: &mut Lines) {
     for block in blocks {
-        put_body(alloc, block.body, names, enums, lines)?;
+        put_body(block.body, names, enums, lines);
     }
-    Ok(())
 }
 
 /// Puts the lines of what is looked up in a body.
-fn put_body(
-    alloc: Global,
-    body: NodeId,
-    names: &Names,
-    enums: &EnumConstants,
-    lines: &mut String,
-) -> Result<(), OutOfMemory> {
+fn put_body(body: NodeId, names: &Names, enums: &EnumConstants, lines: &mut Lines) {
     for name in &names.members {
         if let Some(value) = enums.value_in_body(body, name) {
-            put_in_body(alloc, body, name, value, lines)?;
+            put_in_body(body, name, value, lines);
         }
     }
-    Ok(())
 }
 
 /// Puts the line of a constant that is found in a body by that name.
-fn put_in_body(
-    alloc: Global,
-    body: NodeId,
-    name: &str,
-    value: &ConstantValue,
-    lines: &mut String,
-) -> Result<(), OutOfMemory> {
-    let front = [
+fn put_in_body<'a>(body: NodeId, name: &'a str, value: &'a ConstantValue, lines: &mut Lines) {
+    let line = [
         Piece::Text("body"),
         Piece::Node(body),
         Piece::Word(name),
         Piece::Text(" "),
+        Piece::Constant(Some(value)),
+        Piece::Text("\n"),
     ];
-    put(lines, &front)?;
-    put_end(alloc, value, lines)
+    lines.put(&line);
 }
 
 /// Puts the lines of what is looked up in scopes.
-fn put_scopes(
-    alloc: Global,
-    scopes: &[OpenedScope],
-    names: &Names,
-    enums: &EnumConstants,
-    lines: &mut String,
-) -> Result<(), OutOfMemory> {
+fn put_scopes(scopes: &[OpenedScope], names: &Names, enums: &EnumConstants, lines: &mut Lines) {
     for scope in scopes {
-        put_scope(alloc, scope.number, names, enums, lines)?;
+        put_scope(scope.number, names, enums, lines);
     }
-    Ok(())
 }
 
 /// Puts the lines of what is looked up in a scope.
-fn put_scope(
-    alloc: Global,
-    scope: NodeId,
-    names: &Names,
-    enums: &EnumConstants,
-    lines: &mut String,
-) -> Result<(), OutOfMemory> {
+fn put_scope(scope: NodeId, names: &Names, enums: &EnumConstants, lines: &mut Lines) {
     for name in &names.enums {
-        put_enum(scope, name, enums, lines)?;
-        put_in_enum(alloc, scope, name, names, enums, lines)?;
+        put_enum(scope, name, enums, lines);
+        put_in_enum(scope, name, names, enums, lines);
     }
-    Ok(())
 }
 
 /// Puts the line of the blocks of an enum.
-fn put_enum(
-    scope: NodeId,
-    name: &str,
-    enums: &EnumConstants,
-    lines: &mut String,
-) -> Result<(), OutOfMemory> {
-    put(lines, &[Piece::If(enums.is_const(scope, name), "const ")])?;
-    match enums.blocks_of(scope, name) {
-        Some(bodies) => put_enum_blocks(scope, name, bodies, lines),
-        None => Ok(()),
+fn put_enum(scope: NodeId, name: &str, enums: &EnumConstants, lines: &mut Lines) {
+    lines.put(&[Piece::If(enums.is_const(scope, name), "const ")]);
+    if let Some(bodies) = enums.blocks_of(scope, name) {
+        lines.put(&[Piece::Text("enum"), Piece::Node(scope), Piece::Word(name)]);
+        lines.put_nodes(bodies);
+        lines.put(&[Piece::Text("\n")]);
     }
-}
-
-/// Puts an enum with the bodies of its blocks.
-fn put_enum_blocks(
-    scope: NodeId,
-    name: &str,
-    bodies: &[NodeId],
-    lines: &mut String,
-) -> Result<(), OutOfMemory> {
-    let front = [Piece::Text("enum"), Piece::Node(scope), Piece::Word(name)];
-    put(lines, &front)?;
-    put_nodes(lines, bodies)?;
-    put(lines, &[Piece::Text("\n")])
 }
 
 /// Puts the lines of what is looked up in an enum.
 fn put_in_enum(
-    alloc: Global,
     scope: NodeId,
     enum_name: &str,
     names: &Names,
     enums: &EnumConstants,
-    lines: &mut String,
-) -> Result<(), OutOfMemory> {
+    lines: &mut Lines,
+) {
     for name in &names.members {
         if let Some(value) = enums.value_in_enum(scope, enum_name, name) {
-            put(lines, &[Piece::Text("of"), Piece::Node(scope)])?;
-            put_named(alloc, enum_name, name, value, lines)?;
+            lines.put(&[Piece::Text("of"), Piece::Node(scope)]);
+            put_named(enum_name, name, value, lines);
         }
     }
-    Ok(())
 }
 
 /// Puts the names of an enum and of a member, and the constant.
-fn put_named<'a>(
-    alloc: Global,
-    enum_name: &'a str,
-    name: &'a str,
-    value: &ConstantValue,
-    lines: &mut String,
-) -> Result<(), OutOfMemory> {
-    let names = [Piece::Word(enum_name), Piece::Word(name), Piece::Text(" ")];
-    put(lines, &names)?;
-    put_end(alloc, value, lines)
+fn put_named<'a>(enum_name: &'a str, name: &'a str, value: &'a ConstantValue, lines: &mut Lines) {
+    let line = [
+        Piece::Word(enum_name),
+        Piece::Word(name),
+        Piece::Text(" "),
+        Piece::Constant(Some(value)),
+        Piece::Text("\n"),
+    ];
+    lines.put(&line);
 }
 
 /// Puts the lines of what is looked up by numbers below that one.
-fn put_values(
-    alloc: Global,
-    next: u64,
-    enums: &EnumConstants,
-    lines: &mut String,
-) -> Result<(), OutOfMemory> {
+fn put_values(next: u64, enums: &EnumConstants, lines: &mut Lines) {
     for number in 1..next {
         if let Some(value) = enums.value_of(NodeId(number)) {
-            put_of_node(alloc, NodeId(number), value, lines)?;
+            put_of_node(NodeId(number), value, lines);
         }
     }
-    Ok(())
 }
 
 /// Puts the line of a node that has a constant.
-fn put_of_node(
-    alloc: Global,
-    node: NodeId,
-    value: &ConstantValue,
-    lines: &mut String,
-) -> Result<(), OutOfMemory> {
-    let front = [Piece::Text("value"), Piece::Node(node), Piece::Text(" ")];
-    put(lines, &front)?;
-    put_end(alloc, value, lines)
-}
-
-/// Puts a constant, and ends the line.
-fn put_end(alloc: Global, value: &ConstantValue, lines: &mut String) -> Result<(), OutOfMemory> {
-    put_value(alloc, Some(value), lines)?;
-    put(lines, &[Piece::Text("\n")])
+fn put_of_node(node: NodeId, value: &ConstantValue, lines: &mut Lines) {
+    let line = [
+        Piece::Text("value"),
+        Piece::Node(node),
+        Piece::Text(" "),
+        Piece::Constant(Some(value)),
+        Piece::Text("\n"),
+    ];
+    lines.put(&line);
 }
 
 /// Puts the count of the constants, and the line of the first member that would be too large.
-fn put_count(enums: &EnumConstants, lines: &mut String) -> Result<(), OutOfMemory> {
+fn put_count(enums: &EnumConstants, lines: &mut Lines) {
     let line = [
         Piece::Text("constants "),
         Piece::Count(enums.constants().len()),
         Piece::Text("\n"),
     ];
-    put(lines, &line)?;
-    match enums.first_wide() {
-        Some(span) => put_start(span, lines),
-        None => Ok(()),
+    lines.put(&line);
+    if let Some(span) = enums.first_wide() {
+        put_start(span, lines);
     }
 }
 
 /// Puts where the first member that would be too large starts.
-fn put_start(span: Span, lines: &mut String) -> Result<(), OutOfMemory> {
+fn put_start(span: Span, lines: &mut Lines) {
     let line = [
         Piece::Text("wide "),
         Piece::Number(u64::from(span.start)),
         Piece::Text("\n"),
     ];
-    put(lines, &line)
+    lines.put(&line);
 }

@@ -1,6 +1,6 @@
 //! What stands in the way of lowering enums.
 
-use crate::pieces::{Piece, put};
+use crate::pieces::{Lines, Piece};
 use oxt_enum_checks::misnamed::first_misnamed;
 use oxt_enum_checks::misused::first_misused;
 use oxt_enum_checks::shadowed::{ShadowedName, first_shadowed};
@@ -18,7 +18,7 @@ use std::alloc::Global;
 /// # Errors
 ///
 /// Fails only where memory runs out.
-pub fn put_lines(alloc: Global, program: &Node, lines: &mut String) -> Result<(), OutOfMemory> {
+pub fn put_lines(alloc: Global, program: &Node, lines: &mut Lines) -> Result<(), OutOfMemory> {
     let scoping = resolve(alloc, program, false)?;
     let outcome = put_found(alloc, program, &scoping, lines);
     drop(scoping);
@@ -30,7 +30,7 @@ fn put_found(
     alloc: Global,
     program: &Node,
     scoping: &Scoping,
-    lines: &mut String,
+    lines: &mut Lines,
 ) -> Result<(), OutOfMemory> {
     let sites = EnumSites::of(alloc, program, false)?;
     let outcome = put_found_at(alloc, &sites, scoping, lines);
@@ -43,19 +43,20 @@ fn put_found_at(
     alloc: Global,
     sites: &EnumSites,
     scoping: &Scoping,
-    lines: &mut String,
+    lines: &mut Lines,
 ) -> Result<(), OutOfMemory> {
     let misused = first_misused(sites.program, scoping, sites.legacy);
     let misnamed = first_misnamed(alloc, sites, scoping, misused)?;
-    put_node("misnamed", misnamed, lines)?;
+    put_node("misnamed", misnamed, lines);
     let shadowed = first_shadowed(alloc, sites, scoping)?;
-    put_shadowed(shadowed, lines)?;
+    put_shadowed(shadowed, lines);
     let wide = first_wide(sites.program, scoping, sites.legacy);
-    put_node("wide", wide.map(|member| member.node), lines)
+    put_node("wide", wide.map(|member| member.node), lines);
+    Ok(())
 }
 
 /// Puts the line of the first shadowed name.
-fn put_shadowed(found: Option<ShadowedName>, lines: &mut String) -> Result<(), OutOfMemory> {
+fn put_shadowed(found: Option<ShadowedName>, lines: &mut Lines) {
     match found {
         Some(ShadowedName { node, name }) => {
             let line = [
@@ -64,18 +65,18 @@ fn put_shadowed(found: Option<ShadowedName>, lines: &mut String) -> Result<(), O
                 Piece::Word(name.as_str()),
                 Piece::Text("\n"),
             ];
-            put(lines, &line)
+            lines.put(&line);
         }
-        None => put(lines, &[Piece::Text("shadowed -\n")]),
+        None => lines.put(&[Piece::Text("shadowed -\n")]),
     }
 }
 
 /// Puts the line of a node that is found to be so.
-fn put_node(what: &str, found: Option<NodeId>, lines: &mut String) -> Result<(), OutOfMemory> {
+fn put_node(what: &str, found: Option<NodeId>, lines: &mut Lines) {
     let line = [
         Piece::Text(what),
         Piece::Maybe(found.map(|node| node.0)),
         Piece::Text("\n"),
     ];
-    put(lines, &line)
+    lines.put(&line);
 }

@@ -1,7 +1,7 @@
 //! What becomes of the elements of classes.
 
 use crate::nodes::nodes_of;
-use crate::pieces::{Piece, put, put_nodes};
+use crate::pieces::{Lines, Piece};
 use crate::told::plan_of;
 use oxt_fields::class::{
     constructor_of, elements_of, get_super_call_position, is_derived, is_property, parameters_of,
@@ -35,14 +35,14 @@ pub fn put_lines(
     alloc: Global,
     program: &Node,
     options: &TransformOptions,
-    lines: &mut String,
+    lines: &mut Lines,
 ) -> Result<(), OutOfMemory> {
     put_never_written(alloc, program, lines)?;
     put_classes(alloc, program, options, lines)
 }
 
 /// Puts the line of the names that nothing writes to.
-fn put_never_written(alloc: Global, program: &Node, lines: &mut String) -> Result<(), OutOfMemory> {
+fn put_never_written(alloc: Global, program: &Node, lines: &mut Lines) -> Result<(), OutOfMemory> {
     let scoping = resolve(alloc, program, false)?;
     let outcome = put_never_written_by(alloc, program, &scoping, lines);
     drop(scoping);
@@ -54,12 +54,13 @@ fn put_never_written_by(
     alloc: Global,
     program: &Node,
     scoping: &Scoping,
-    lines: &mut String,
+    lines: &mut Lines,
 ) -> Result<(), OutOfMemory> {
     let nodes = never_written_nodes(alloc, program, scoping)?;
-    put(lines, &[Piece::Text("never written")])?;
-    put_nodes(lines, nodes.as_slice())?;
-    put(lines, &[Piece::Text("\n")])
+    lines.put(&[Piece::Text("never written")]);
+    lines.put_nodes(nodes.as_slice());
+    lines.put(&[Piece::Text("\n")]);
+    Ok(())
 }
 
 /// Puts the lines of the classes.
@@ -67,7 +68,7 @@ fn put_classes(
     alloc: Global,
     program: &Node,
     options: &TransformOptions,
-    lines: &mut String,
+    lines: &mut Lines,
 ) -> Result<(), OutOfMemory> {
     let scoping = resolve(alloc, program, options.decorator.legacy)?;
     let plan = plan_of(alloc, program, &scoping, options);
@@ -81,7 +82,7 @@ fn put_classes_of(
     plan: Plan,
     program: &Node,
     options: &TransformOptions,
-    lines: &mut String,
+    lines: &mut Lines,
 ) -> Result<(), OutOfMemory> {
     let outcome = put_classes_by(alloc, FieldRules::new(options, &plan), program, lines);
     drop(plan);
@@ -93,21 +94,12 @@ fn put_classes_by(
     alloc: Global,
     rules: FieldRules,
     program: &Node,
-    lines: &mut String,
+    lines: &mut Lines,
 ) -> Result<(), OutOfMemory> {
     let nodes = nodes_of(alloc, program)?;
-    put_classes_in(rules, nodes.as_slice(), lines)
-}
-
-/// Puts the lines of those of the nodes that are classes.
-fn put_classes_in(
-    rules: FieldRules,
-    nodes: &[&Node],
-    lines: &mut String,
-) -> Result<(), OutOfMemory> {
-    for node in nodes {
+    for node in &nodes {
         if is_class(node) {
-            put_class(rules, node, lines)?;
+            put_class(rules, node, lines);
         }
     }
     Ok(())
@@ -119,7 +111,7 @@ fn is_class(node: &Node) -> bool {
 }
 
 /// Puts the lines of a class.
-fn put_class(rules: FieldRules, class: &Node, lines: &mut String) -> Result<(), OutOfMemory> {
+fn put_class(rules: FieldRules, class: &Node, lines: &mut Lines) {
     let elements = elements_of(class);
     let hoists = hoists_private(elements);
     let front = [
@@ -128,26 +120,22 @@ fn put_class(rules: FieldRules, class: &Node, lines: &mut String) -> Result<(), 
         Piece::If(is_derived(class), " derived"),
         Piece::If(hoists, " hoists"),
     ];
-    put(lines, &front)?;
-    put_constructor(constructor_of(elements), lines)?;
-    put_elements(rules, hoists, elements, lines)
+    lines.put(&front);
+    put_constructor(constructor_of(elements), lines);
+    put_elements(rules, hoists, elements, lines);
 }
 
 /// Puts the lines of the elements that do not stay as they are.
-fn put_elements(
-    rules: FieldRules,
-    hoists: bool,
-    elements: &[Part],
-    lines: &mut String,
-) -> Result<(), OutOfMemory> {
+fn put_elements(rules: FieldRules, hoists: bool, elements: &[Part], lines: &mut Lines) {
     for element in elements {
-        put_element(rules, hoists, element, lines)?;
+        if let Part::Node(node) = element {
+            put_fate(rules, hoists, node, lines);
+        }
     }
-    Ok(())
 }
 
 /// Puts what stands of a constructor behind its class, and the lines of its properties.
-fn put_constructor(constructor: Option<&Node>, lines: &mut String) -> Result<(), OutOfMemory> {
+fn put_constructor(constructor: Option<&Node>, lines: &mut Lines) {
     match constructor {
         Some(constructor) => {
             let place = get_super_call_position(statements_of(constructor));
@@ -157,23 +145,22 @@ fn put_constructor(constructor: Option<&Node>, lines: &mut String) -> Result<(),
                 Piece::Count(place),
                 Piece::Text("\n"),
             ];
-            put(lines, &line)?;
+            lines.put(&line);
             put_properties(parameters_of(constructor), lines)
         }
-        None => put(lines, &[Piece::Text(" -\n")]),
+        None => lines.put(&[Piece::Text(" -\n")]),
     }
 }
 
 /// Puts the lines of the parameters that are properties.
-fn put_properties(parameters: &[Part], lines: &mut String) -> Result<(), OutOfMemory> {
+fn put_properties(parameters: &[Part], lines: &mut Lines) {
     for parameter in parameters {
-        put_property(parameter, lines)?;
+        put_property(parameter, lines);
     }
-    Ok(())
 }
 
 /// Puts the line of a parameter that is a property.
-fn put_property(parameter: &Part, lines: &mut String) -> Result<(), OutOfMemory> {
+fn put_property(parameter: &Part, lines: &mut Lines) {
     match parameter {
         Part::Node(node) if is_property(node) => {
             let line = [
@@ -182,9 +169,9 @@ fn put_property(parameter: &Part, lines: &mut String) -> Result<(), OutOfMemory>
                 Piece::Word(name_of(node)),
                 Piece::Text("\n"),
             ];
-            put(lines, &line)
+            lines.put(&line);
         }
-        _ => Ok(()),
+        _ => {}
     }
 }
 
@@ -197,30 +184,12 @@ fn name_of(parameter: &Node) -> &str {
 }
 
 /// Puts the line of an element that does not stay as it is.
-fn put_element(
-    rules: FieldRules,
-    hoists: bool,
-    element: &Part,
-    lines: &mut String,
-) -> Result<(), OutOfMemory> {
-    match element {
-        Part::Node(node) => put_fate(rules, hoists, node, lines),
-        _ => Ok(()),
-    }
-}
-
-/// Puts the line of the node.
-fn put_fate(
-    rules: FieldRules,
-    hoists: bool,
-    node: &Node,
-    lines: &mut String,
-) -> Result<(), OutOfMemory> {
+fn put_fate(rules: FieldRules, hoists: bool, node: &Node, lines: &mut Lines) {
     let number = node.id.0;
     match fate_of(rules, hoists, node) {
-        Fate::Stays => Ok(()),
-        Fate::Goes => put(lines, &[Piece::Number(number), Piece::Text(" goes\n")]),
-        Fate::LeavesKey => put(lines, &[Piece::Number(number), Piece::Text(" key\n")]),
+        Fate::Stays => {}
+        Fate::Goes => lines.put(&[Piece::Number(number), Piece::Text(" goes\n")]),
+        Fate::LeavesKey => lines.put(&[Piece::Number(number), Piece::Text(" key\n")]),
         Fate::Moves {
             stays,
             has_temporary,
@@ -233,7 +202,7 @@ fn put_fate(
                 Piece::If(has_temporary, " kept"),
                 Piece::Text("\n"),
             ];
-            put(lines, &line)
+            lines.put(&line);
         }
     }
 }

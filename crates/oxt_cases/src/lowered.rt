@@ -1,7 +1,6 @@
 //! Programs with their enums lowered.
 
-use crate::case::put_json;
-use crate::pieces::{Piece, put};
+use crate::pieces::{Lines, Piece};
 use crate::told::listed_plan;
 use oxt_ctx::context::TraverseCtx;
 use oxt_json::write_tree;
@@ -34,7 +33,7 @@ pub fn put_lines(
     alloc: Global,
     program: &mut Program,
     options: &TypeScriptOptions,
-    lines: &mut String,
+    lines: &mut Lines,
 ) -> Result<(), OutOfMemory> {
     lower(alloc, program, options)?;
     put_program(alloc, program, lines)
@@ -96,16 +95,16 @@ fn context_with(
 }
 
 /// Puts the JSON of the program, with the keys of its objects in order.
-fn put_program(alloc: Global, program: &Program, lines: &mut String) -> Result<(), OutOfMemory> {
+fn put_program(alloc: Global, program: &Program, lines: &mut Lines) -> Result<(), OutOfMemory> {
     let bytes = write_tree(alloc, program)?;
-    put_sorted(alloc, bytes.as_slice(), lines)?;
-    put(lines, &[Piece::Text("\n")])
+    put_sorted(alloc, bytes.as_slice(), lines);
+    lines.put(&[Piece::Text("\n")]);
+    Ok(())
 }
 
 /// Puts the JSON that the bytes spell, with the keys of its objects in order.
-fn put_sorted(alloc: Global, bytes: &[u8], lines: &mut String) -> Result<(), OutOfMemory> {
-    match Value::from_slice(alloc, bytes) {
-        Ok(value) => Ok(put_json(alloc, &value, lines)?),
-        Err(_) => Ok(()),
+fn put_sorted(alloc: Global, bytes: &[u8], lines: &mut Lines) {
+    if let Ok(value) = Value::from_slice(alloc, bytes) {
+        lines.put_json(&value);
     }
 }

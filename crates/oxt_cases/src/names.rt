@@ -1,7 +1,7 @@
 //! The owners of names, and what scopes declare.
 
 use crate::nodes::nodes_of;
-use crate::pieces::{Piece, put};
+use crate::pieces::{Lines, Piece};
 use oxt_declares::declaration::{Declaration, Sight};
 use oxt_declares::declares::declarations_of;
 use oxt_names::ids::OutOfMemory;
@@ -17,15 +17,10 @@ use std::alloc::Global;
 /// # Errors
 ///
 /// Fails only where memory runs out.
-pub fn put_owners(alloc: Global, program: &Node, lines: &mut String) -> Result<(), OutOfMemory> {
+pub fn put_owners(alloc: Global, program: &Node, lines: &mut Lines) -> Result<(), OutOfMemory> {
     let names = owners_of(alloc, program)?;
-    put_each(names.as_slice(), lines)
-}
-
-/// Puts the lines of these names.
-fn put_each(names: &[OwnedName], lines: &mut String) -> Result<(), OutOfMemory> {
-    for owned in names {
-        put_owned(owned, lines)?;
+    for owned in &names {
+        put_owned(owned, lines);
     }
     Ok(())
 }
@@ -35,28 +30,23 @@ fn put_each(names: &[OwnedName], lines: &mut String) -> Result<(), OutOfMemory> 
 /// # Errors
 ///
 /// Fails only where memory runs out.
-pub fn put_numbered(alloc: Global, program: &Node, lines: &mut String) -> Result<(), OutOfMemory> {
+pub fn put_numbered(alloc: Global, program: &Node, lines: &mut Lines) -> Result<(), OutOfMemory> {
     let names = owners_of(alloc, program)?;
-    put_each_numbered(names.as_slice(), lines)
-}
-
-/// Puts the lines of these names, with their numbers.
-fn put_each_numbered(names: &[OwnedName], lines: &mut String) -> Result<(), OutOfMemory> {
-    for owned in names {
-        put(lines, &[Piece::Number(owned.node.0), Piece::Text(" ")])?;
-        put_owned(owned, lines)?;
+    for owned in &names {
+        lines.put(&[Piece::Number(owned.node.0), Piece::Text(" ")]);
+        put_owned(owned, lines);
     }
     Ok(())
 }
 
 /// Puts the line of one name.
-fn put_owned(owned: &OwnedName, lines: &mut String) -> Result<(), OutOfMemory> {
+fn put_owned(owned: &OwnedName, lines: &mut Lines) {
     let line = [
         Piece::Text(owned.name),
         Piece::Maybe(owned.owner.map(|owner| owner.0)),
         Piece::Text(ending_of(owned.usage)),
     ];
-    put(lines, &line)
+    lines.put(&line);
 }
 
 /// What ends the line of a name that is used so.
@@ -79,7 +69,7 @@ fn ending_of(usage: Usage) -> &'static str {
 pub fn put_declarations(
     alloc: Global,
     program: &Node,
-    lines: &mut String,
+    lines: &mut Lines,
 ) -> Result<(), OutOfMemory> {
     let nodes = nodes_of(alloc, program)?;
     put_declared_by_each(alloc, nodes.as_slice(), lines)
@@ -89,7 +79,7 @@ pub fn put_declarations(
 fn put_declared_by_each(
     alloc: Global,
     nodes: &[&Node],
-    lines: &mut String,
+    lines: &mut Lines,
 ) -> Result<(), OutOfMemory> {
     for node in nodes {
         put_declared_by(alloc, node, lines)?;
@@ -98,29 +88,16 @@ fn put_declared_by_each(
 }
 
 /// Puts the lines of what the node declares.
-fn put_declared_by(alloc: Global, node: &Node, lines: &mut String) -> Result<(), OutOfMemory> {
+fn put_declared_by(alloc: Global, node: &Node, lines: &mut Lines) -> Result<(), OutOfMemory> {
     let declarations = declarations_of(alloc, node)?;
-    put_each_declaration(node, declarations.as_slice(), lines)
-}
-
-/// Puts the lines of these declarations of the node.
-fn put_each_declaration(
-    node: &Node,
-    declarations: &[Declaration],
-    lines: &mut String,
-) -> Result<(), OutOfMemory> {
-    for declaration in declarations {
-        put_declaration(node, declaration, lines)?;
+    for declaration in &declarations {
+        put_declaration(node, declaration, lines);
     }
     Ok(())
 }
 
 /// Puts the line of a declaration of the node.
-fn put_declaration(
-    node: &Node,
-    declaration: &Declaration,
-    lines: &mut String,
-) -> Result<(), OutOfMemory> {
+fn put_declaration(node: &Node, declaration: &Declaration, lines: &mut Lines) {
     let sort = declaration.sort;
     let line = [
         Piece::Number(node.id.0),
@@ -132,5 +109,5 @@ fn put_declaration(
         Piece::If(declaration.body.is_some(), " body"),
         Piece::Text("\n"),
     ];
-    put(lines, &line)
+    lines.put(&line);
 }

@@ -1,20 +1,11 @@
 //! What is told of namespaces, and of the pieces of templates.
 
 use crate::classes::put_told_names;
-use crate::pieces::{Piece, put};
+use crate::pieces::{Lines, Piece};
 use oxt_facts::told::{ToldExport, ToldNamespace, ToldQuasi, ToldStored};
-use oxt_names::ids::OutOfMemory;
 
 /// Puts `NUMBER namespace NAME TAG BASE first`, with `-` where no block exports it.
-///
-/// # Errors
-///
-/// Fails only where memory runs out.
-pub fn put_namespace(
-    number: u64,
-    namespace: &ToldNamespace,
-    lines: &mut String,
-) -> Result<(), OutOfMemory> {
+pub fn put_namespace(number: u64, namespace: &ToldNamespace, lines: &mut Lines) {
     let line = [
         Piece::Number(number),
         Piece::Text(" namespace"),
@@ -24,31 +15,23 @@ pub fn put_namespace(
         Piece::If(namespace.is_first, " first"),
         Piece::Text("\n"),
     ];
-    put(lines, &line)
+    lines.put(&line);
 }
 
 /// Puts `NUMBER export TAG NAME ..`.
-///
-/// # Errors
-///
-/// Fails only where memory runs out.
-pub fn put_export(number: u64, export: &ToldExport, lines: &mut String) -> Result<(), OutOfMemory> {
+pub fn put_export(number: u64, export: &ToldExport, lines: &mut Lines) {
     let front = [
         Piece::Number(number),
         Piece::Text(" export"),
         Piece::Word(export.tag.as_str()),
     ];
-    put(lines, &front)?;
-    put_told_names(export.names.as_slice(), lines)?;
-    put(lines, &[Piece::Text("\n")])
+    lines.put(&front);
+    put_told_names(export.names.as_slice(), lines);
+    lines.put(&[Piece::Text("\n")]);
 }
 
 /// Puts `NUMBER stored TAG NAME`.
-///
-/// # Errors
-///
-/// Fails only where memory runs out.
-pub fn put_stored(number: u64, stored: &ToldStored, lines: &mut String) -> Result<(), OutOfMemory> {
+pub fn put_stored(number: u64, stored: &ToldStored, lines: &mut Lines) {
     let line = [
         Piece::Number(number),
         Piece::Text(" stored"),
@@ -56,15 +39,11 @@ pub fn put_stored(number: u64, stored: &ToldStored, lines: &mut String) -> Resul
         Piece::Word(stored.name.as_str()),
         Piece::Text("\n"),
     ];
-    put(lines, &line)
+    lines.put(&line);
 }
 
 /// Puts `NUMBER quasi RAW COOKED`, with `-` for a text that is absent.
-///
-/// # Errors
-///
-/// Fails only where memory runs out.
-pub fn put_quasi(number: u64, quasi: &ToldQuasi, lines: &mut String) -> Result<(), OutOfMemory> {
+pub fn put_quasi(number: u64, quasi: &ToldQuasi, lines: &mut Lines) {
     let line = [
         Piece::Number(number),
         Piece::Text(" quasi"),
@@ -72,5 +51,5 @@ pub fn put_quasi(number: u64, quasi: &ToldQuasi, lines: &mut String) -> Result<(
         Piece::Name(quasi.cooked.as_ref()),
         Piece::Text("\n"),
     ];
-    put(lines, &line)
+    lines.put(&line);
 }

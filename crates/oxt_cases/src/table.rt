@@ -1,5 +1,6 @@
 //! The tables: what each tells of a tree.
 
+use crate::pieces::Lines;
 use crate::trees::Trees;
 use crate::{
     blocks, class_faults, constants, differences, enums, faults, fields, levels, lowered, names,
@@ -150,13 +151,13 @@ impl Table {
     ///
     /// One that says that the output is not there; or want of memory.
     pub fn lines(self, alloc: Global, trees: &mut Trees) -> Result<String> {
-        let mut lines = String::new(alloc);
+        let mut lines = Lines::new(alloc);
         self.put_lines(alloc, trees, &mut lines)?;
-        Ok(lines)
+        Ok(lines.into_string()?)
     }
 
     /// Puts the lines for these trees.
-    fn put_lines(self, alloc: Global, trees: &mut Trees, lines: &mut String) -> Result<()> {
+    fn put_lines(self, alloc: Global, trees: &mut Trees, lines: &mut Lines) -> Result<()> {
         match self {
             Table::Pair | Table::Differences => {
                 let output = trees.output()?;
@@ -172,7 +173,7 @@ impl Table {
         alloc: Global,
         source: &Node,
         output: &Node,
-        lines: &mut String,
+        lines: &mut Lines,
     ) -> Result<(), OutOfMemory> {
         match self {
             Table::Pair => words::put_output(alloc, source, output, lines),
@@ -185,7 +186,7 @@ impl Table {
         self,
         alloc: Global,
         trees: &mut Trees,
-        lines: &mut String,
+        lines: &mut Lines,
     ) -> Result<(), OutOfMemory> {
         match self {
             Table::Lowered => {
@@ -204,7 +205,7 @@ impl Table {
         alloc: Global,
         program: &Node,
         options: &TransformOptions,
-        lines: &mut String,
+        lines: &mut Lines,
     ) -> Result<(), OutOfMemory> {
         match self {
             Table::Fields => fields::put_lines(alloc, program, options, lines),
@@ -220,7 +221,7 @@ impl Table {
         self,
         alloc: Global,
         program: &Node,
-        lines: &mut String,
+        lines: &mut Lines,
     ) -> Result<(), OutOfMemory> {
         match self {
             Table::Names => names::put_owners(alloc, program, lines),
@@ -233,7 +234,10 @@ impl Table {
             Table::FirstBlocks => blocks::put_first(alloc, program, lines),
             Table::Clash => blocks::put_clash(alloc, program, lines),
             Table::EnumFaults => faults::put_lines(alloc, program, lines),
-            Table::Levels => levels::put_lines(program, lines),
+            Table::Levels => {
+                levels::put_lines(program, lines);
+                Ok(())
+            }
             _ => words::put_source(alloc, program, lines),
         }
     }

@@ -1,10 +1,9 @@
 //! What is told of the nodes of a program.
 use crate::blocks::first_of;
 use crate::classes::{put_gains, put_moves};
-use crate::constants::put_value;
 use crate::decorated::{put_accessor, put_applied, put_called, put_decorated, put_default};
 use crate::namespaces::{put_export, put_namespace, put_quasi, put_stored};
-use crate::pieces::{Piece, put};
+use crate::pieces::{Lines, Piece};
 use oxt_facts::told::{MemberValue, Told, ToldBlock, ToldMember, ToldNodes};
 use oxt_fields::aliases::alias_uses;
 use oxt_fields::rules::FieldRules;
@@ -198,39 +197,28 @@ pub fn put_lines(
     alloc: Global,
     program: &Program,
     options: &TransformOptions,
-    lines: &mut String,
+    lines: &mut Lines,
 ) -> Result<(), OutOfMemory> {
     let told = told_nodes(alloc, &program.root, options)?;
-    let outcome = put_each(alloc, program.ids.next, &told, lines);
+    put_each(program.ids.next, &told, lines);
     drop(told);
-    outcome
-}
-
-/// Puts the lines of the nodes whose numbers are below that one.
-fn put_each(
-    alloc: Global,
-    next: u64,
-    told: &ToldNodes,
-    lines: &mut String,
-) -> Result<(), OutOfMemory> {
-    for number in 1..next {
-        put_told(alloc, number, told.of(NodeId(number)), lines)?;
-    }
     Ok(())
 }
 
+/// Puts the lines of the nodes whose numbers are below that one.
+fn put_each(next: u64, told: &ToldNodes, lines: &mut Lines) {
+    for number in 1..next {
+        put_told(number, told.of(NodeId(number)), lines);
+    }
+}
+
 /// Puts the line of a node, if something is told of it.
-fn put_told(
-    alloc: Global,
-    number: u64,
-    told: Option<&Told>,
-    lines: &mut String,
-) -> Result<(), OutOfMemory> {
+fn put_told(number: u64, told: Option<&Told>, lines: &mut Lines) {
     match told {
         Some(Told::Block(block)) => put_block(number, block, lines),
-        Some(Told::Member(member)) => put_member(alloc, number, member, lines),
+        Some(Told::Member(member)) => put_member(number, member, lines),
         Some(Told::Bare(owner, _)) => put_word(number, " bare", owner.as_str(), lines),
-        Some(Told::Inlined(constant)) => put_inlined(alloc, number, constant, lines),
+        Some(Told::Inlined(constant)) => put_inlined(number, constant, lines),
         Some(Told::Gone) => put_short(number, " gone\n", lines),
         Some(Told::Listless) => put_short(number, " listless\n", lines),
         Some(Told::Strict) => put_short(number, " strict\n", lines),
@@ -242,12 +230,12 @@ fn put_told(
         Some(Told::Moves(moving)) => put_moves(number, moving, lines),
         Some(Told::LeavesKey(is_last)) => put_key(number, *is_last, lines),
         Some(told) => put_legacy(number, told, lines),
-        None => Ok(()),
+        None => {}
     }
 }
 
 /// Puts the line of a node of which something is told where decorators are lowered.
-fn put_legacy(number: u64, told: &Told, lines: &mut String) -> Result<(), OutOfMemory> {
+fn put_legacy(number: u64, told: &Told, lines: &mut Lines) {
     match told {
         Told::Called(element) => put_called(number, element, lines),
         Told::Accessor(accessor) => put_accessor(number, accessor, lines),
@@ -257,67 +245,61 @@ fn put_legacy(number: u64, told: &Told, lines: &mut String) -> Result<(), OutOfM
         Told::Applied(place) => put_applied(number, *place, lines),
         Told::Alias(tag) => put_word(number, " alias", tag.as_str(), lines),
         Told::Inner(group) => put_inner(number, *group, lines),
-        _ => Ok(()),
+        _ => {}
     }
 }
 
 /// Puts the line of a node of which that alone is told.
-fn put_short(number: u64, what: &str, lines: &mut String) -> Result<(), OutOfMemory> {
-    put(lines, &[Piece::Number(number), Piece::Text(what)])
+fn put_short(number: u64, what: &str, lines: &mut Lines) {
+    lines.put(&[Piece::Number(number), Piece::Text(what)]);
 }
 
 /// Puts the line of a node of which that is told, and a name.
-fn put_word<'a>(
-    number: u64,
-    what: &'a str,
-    word: &'a str,
-    lines: &mut String,
-) -> Result<(), OutOfMemory> {
+fn put_word<'a>(number: u64, what: &'a str, word: &'a str, lines: &mut Lines) {
     let line = [
         Piece::Number(number),
         Piece::Text(what),
         Piece::Word(word),
         Piece::Text("\n"),
     ];
-    put(lines, &line)
+    lines.put(&line);
 }
 
 /// Puts the line of a name inside a class, which has that group.
-fn put_inner(number: u64, group: u64, lines: &mut String) -> Result<(), OutOfMemory> {
+fn put_inner(number: u64, group: u64, lines: &mut Lines) {
     let line = [
         Piece::Number(number),
         Piece::Text(" inner"),
         Piece::Maybe(Some(group)),
         Piece::Text("\n"),
     ];
-    put(lines, &line)
+    lines.put(&line);
 }
 
 /// Puts the line of a field that leaves its key.
-fn put_key(number: u64, is_last: bool, lines: &mut String) -> Result<(), OutOfMemory> {
+fn put_key(number: u64, is_last: bool, lines: &mut Lines) {
     let line = [
         Piece::Number(number),
         Piece::Text(" key"),
         Piece::If(is_last, " last"),
         Piece::Text("\n"),
     ];
-    put(lines, &line)
+    lines.put(&line);
 }
 
 /// Puts the line of an expression that is inlined.
-fn put_inlined(
-    alloc: Global,
-    number: u64,
-    constant: &ConstantValue,
-    lines: &mut String,
-) -> Result<(), OutOfMemory> {
-    put(lines, &[Piece::Number(number), Piece::Text(" inlined ")])?;
-    put_value(alloc, Some(constant), lines)?;
-    put(lines, &[Piece::Text("\n")])
+fn put_inlined(number: u64, constant: &ConstantValue, lines: &mut Lines) {
+    let line = [
+        Piece::Number(number),
+        Piece::Text(" inlined "),
+        Piece::Constant(Some(constant)),
+        Piece::Text("\n"),
+    ];
+    lines.put(&line);
 }
 
 /// Puts the line of a block.
-fn put_block(number: u64, block: &ToldBlock, lines: &mut String) -> Result<(), OutOfMemory> {
+fn put_block(number: u64, block: &ToldBlock, lines: &mut Lines) {
     let line = [
         Piece::Number(number),
         Piece::Text(" block"),
@@ -327,16 +309,11 @@ fn put_block(number: u64, block: &ToldBlock, lines: &mut String) -> Result<(), O
         Piece::If(block.is_pure, " pure"),
         Piece::Text("\n"),
     ];
-    put(lines, &line)
+    lines.put(&line);
 }
 
 /// Puts the line of a member.
-fn put_member(
-    alloc: Global,
-    number: u64,
-    member: &ToldMember,
-    lines: &mut String,
-) -> Result<(), OutOfMemory> {
+fn put_member(number: u64, member: &ToldMember, lines: &mut Lines) {
     let front = [
         Piece::Number(number),
         Piece::Text(" member"),
@@ -344,27 +321,21 @@ fn put_member(
         Piece::Word(member.name.as_str()),
         Piece::Text(" "),
     ];
-    put(lines, &front)?;
-    put_member_value(alloc, &member.value, lines)?;
-    let end = [
+    lines.put(&front);
+    put_member_value(&member.value, lines);
+    lines.put(&[
         Piece::If(member.is_reversed, " reversed"),
         Piece::Text("\n"),
-    ];
-    put(lines, &end)
+    ]);
 }
 
 /// Puts the value of a member.
-fn put_member_value(
-    alloc: Global,
-    value: &MemberValue,
-    lines: &mut String,
-) -> Result<(), OutOfMemory> {
+fn put_member_value(value: &MemberValue, lines: &mut Lines) {
     match value {
-        MemberValue::Constant(value) => put_value(alloc, Some(value), lines),
-        MemberValue::Following(name) => put(
-            lines,
-            &[Piece::Text("after"), Piece::Word(name.as_str())],
-        ),
-        MemberValue::Written => put(lines, &[Piece::Text("written")]),
+        MemberValue::Constant(value) => lines.put(&[Piece::Constant(Some(value))]),
+        MemberValue::Following(name) => {
+            lines.put(&[Piece::Text("after"), Piece::Word(name.as_str())]);
+        }
+        MemberValue::Written => lines.put(&[Piece::Text("written")]),
     }
 }

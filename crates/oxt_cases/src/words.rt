@@ -1,7 +1,7 @@
 //! Words of trees.
 
 use crate::items;
-use crate::pieces::{Piece, put};
+use crate::pieces::{Lines, Piece};
 use crate::told::told_nodes;
 use oxt_facts::facts::Facts;
 use oxt_facts::item::Item;
@@ -20,7 +20,7 @@ use std::alloc::Global;
 /// # Errors
 ///
 /// Fails only where memory runs out.
-pub fn put_source(alloc: Global, source: &Node, lines: &mut String) -> Result<(), OutOfMemory> {
+pub fn put_source(alloc: Global, source: &Node, lines: &mut Lines) -> Result<(), OutOfMemory> {
     let facts = Facts::of_source(alloc)?;
     put_word(alloc, facts, source, lines)
 }
@@ -34,7 +34,7 @@ pub fn put_told(
     alloc: Global,
     source: &Node,
     options: &TransformOptions,
-    lines: &mut String,
+    lines: &mut Lines,
 ) -> Result<(), OutOfMemory> {
     let facts = told_facts(alloc, source, options)?;
     put_word(alloc, facts, source, lines)
@@ -49,7 +49,7 @@ pub fn put_owned(
     alloc: Global,
     source: &Node,
     options: &TransformOptions,
-    lines: &mut String,
+    lines: &mut Lines,
 ) -> Result<(), OutOfMemory> {
     let facts = told_facts(alloc, source, options)?;
     let items = word_by(facts, source)?;
@@ -85,7 +85,7 @@ pub fn put_output(
     alloc: Global,
     source: &Node,
     output: &Node,
-    lines: &mut String,
+    lines: &mut Lines,
 ) -> Result<(), OutOfMemory> {
     let facts = facts_of_output(alloc, source, output)?;
     put_word(alloc, facts, output, lines)
@@ -125,7 +125,7 @@ fn put_word(
     alloc: Global,
     facts: Facts,
     program: &Node,
-    lines: &mut String,
+    lines: &mut Lines,
 ) -> Result<(), OutOfMemory> {
     let items = word_by(facts, program)?;
     put_items(alloc, items.as_slice(), lines)
@@ -136,9 +136,10 @@ fn put_word(
 /// # Errors
 ///
 /// Fails only where memory runs out.
-pub fn put_items(alloc: Global, items: &[Item], lines: &mut String) -> Result<(), OutOfMemory> {
+pub fn put_items(alloc: Global, items: &[Item], lines: &mut Lines) -> Result<(), OutOfMemory> {
     let bytes = items::lines_of(alloc, items)?;
-    put_bytes(bytes.as_slice(), lines)
+    lines.put(&[Piece::Text(text_of(bytes.as_slice()))]);
+    Ok(())
 }
 
 /// Puts the line of an item.
@@ -146,16 +147,17 @@ pub fn put_items(alloc: Global, items: &[Item], lines: &mut String) -> Result<()
 /// # Errors
 ///
 /// Fails only where memory runs out.
-pub fn put_item(alloc: Global, item: &Item, lines: &mut String) -> Result<(), OutOfMemory> {
+pub fn put_item(alloc: Global, item: &Item, lines: &mut Lines) -> Result<(), OutOfMemory> {
     let bytes = items::line_of(alloc, item)?;
-    put_bytes(bytes.as_slice(), lines)
+    lines.put(&[Piece::Text(text_of(bytes.as_slice()))]);
+    Ok(())
 }
 
-/// Puts the text that the bytes are.
-fn put_bytes(bytes: &[u8], lines: &mut String) -> Result<(), OutOfMemory> {
+/// The text that the bytes are; empty where they are none.
+fn text_of(bytes: &[u8]) -> &str {
     match str::from_utf8(bytes) {
-        Ok(text) => put(lines, &[Piece::Text(text)]),
-        Err(_) => Ok(()),
+        Ok(text) => text,
+        Err(_) => "",
     }
 }
 
@@ -164,7 +166,7 @@ fn put_bytes(bytes: &[u8], lines: &mut String) -> Result<(), OutOfMemory> {
 /// # Errors
 ///
 /// Fails only where memory runs out.
-pub fn put_grouped(alloc: Global, items: &[Item], lines: &mut String) -> Result<(), OutOfMemory> {
+pub fn put_grouped(alloc: Global, items: &[Item], lines: &mut Lines) -> Result<(), OutOfMemory> {
     for item in items {
         put_grouped_item(alloc, item, lines)?;
     }
@@ -176,7 +178,7 @@ pub fn put_grouped(alloc: Global, items: &[Item], lines: &mut String) -> Result<
 /// # Errors
 ///
 /// Fails only where memory runs out.
-pub fn put_grouped_item(alloc: Global, item: &Item, lines: &mut String) -> Result<(), OutOfMemory> {
+pub fn put_grouped_item(alloc: Global, item: &Item, lines: &mut Lines) -> Result<(), OutOfMemory> {
     match item.group {
         Some(group) => put_with_group(alloc, item, group, lines),
         None => put_item(alloc, item, lines),
@@ -188,15 +190,15 @@ fn put_with_group(
     alloc: Global,
     item: &Item,
     group: u64,
-    lines: &mut String,
+    lines: &mut Lines,
 ) -> Result<(), OutOfMemory> {
-    let mut line = String::new(alloc);
-    put_item(alloc, item, &mut line)?;
-    put_joined(line.as_str(), group, lines)
+    let bytes = items::line_of(alloc, item)?;
+    put_joined(text_of(bytes.as_slice()), group, lines);
+    Ok(())
 }
 
 /// Puts the line with that group at the end of its array.
-fn put_joined(line: &str, group: u64, lines: &mut String) -> Result<(), OutOfMemory> {
+fn put_joined(line: &str, group: u64, lines: &mut Lines) {
     match line.strip_suffix("]\n") {
         Some(front) => {
             let joined = [
@@ -205,8 +207,8 @@ fn put_joined(line: &str, group: u64, lines: &mut String) -> Result<(), OutOfMem
                 Piece::Number(group),
                 Piece::Text("}]\n"),
             ];
-            put(lines, &joined)
+            lines.put(&joined);
         }
-        None => put(lines, &[Piece::Text(line)]),
+        None => lines.put(&[Piece::Text(line)]),
     }
 }

@@ -43,8 +43,8 @@ use crate::properties::add_parameter_property_fields;
 use oxt_ctx::context::TraverseCtx;
 use oxt_names::ids::OutOfMemory;
 use oxt_options::TransformOptions;
-use oxt_traverse::hook::Hook;
-use oxt_traverse::pass::Pass;
+use oxt_pass::hook::Hook;
+use oxt_pass::pass::Pass;
 use oxt_tree::tree::{Node, Part};
 
 /// The pass that puts parameters which are properties on the object, moves the values of fields into the

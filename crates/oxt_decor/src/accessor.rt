@@ -45,7 +45,7 @@ use oxt_decorated::storage::storage_text;
 use oxt_grammar::field::Field;
 use oxt_grammar::kind::Kind;
 use oxt_names::flags::ReferenceFlags;
-use oxt_names::ids::{NodeId, NodeIds, OutOfMemory};
+use oxt_names::ids::{NodeIds, OutOfMemory};
 use oxt_names::name::Name;
 use oxt_tree::tree::{Node, Part};
 use std::alloc::Global;
@@ -270,10 +270,8 @@ fn push_lowered(
         field,
     } = keys;
     push_field(&mut accessor, &field, elements, &mut ctx.ids)?;
-    let storage = storage_of(&accessor, &field, frame, ctx)?;
-    push_getter(&mut accessor, getter, storage, elements, frame.class, ctx)?;
-    let storage = storage_of(&accessor, &field, frame, ctx)?;
-    push_setter(&accessor, setter, storage, elements, frame.class, ctx)
+    push_getter(&mut accessor, getter, &field, elements, frame, ctx)?;
+    push_setter(&accessor, setter, &field, elements, frame, ctx)
 }
 
 /// Appends the private field of that name, which gets the value of the accessor.
@@ -328,24 +326,40 @@ fn object_of(
 fn push_getter(
     accessor: &mut Node,
     key: Node,
-    storage: Node,
+    field: &Name,
     elements: &mut Vec<Part>,
-    class: NodeId,
+    frame: &ClassFrame,
     ctx: &mut TraverseCtx,
 ) -> Result<(), OutOfMemory>
     ensures around { OnOk result (ctx.new.ancestors ≡ ctx.old.ancestors) }
     ensures depth { OnOk result
         (length (frames ctx.new.declarations) ≡ length (frames ctx.old.declarations)) }
 {
-    let (is_static, is_computed) = (accessor.flag(Field::Static), accessor.flag(Field::Computed));
-    let scope = scope_of_class(class, ctx);
-    let mut getter = create_getter(is_static, key, is_computed, storage, scope, ctx)?;
+    let mut getter = getter_of(accessor, key, field, frame, ctx)?;
     getter.id = accessor.id;
     let decorators = take_list(ctx.memory(), accessor, Field::Decorators);
     put_field(&mut getter, Field::Decorators, Part::List(decorators));
     put_type(&mut getter, accessor);
     elements.push(Part::Node(getter))?;
     Ok(())
+}
+
+/// The getter, with that key, of the field of that name.
+fn getter_of(
+    accessor: &Node,
+    key: Node,
+    field: &Name,
+    frame: &ClassFrame,
+    ctx: &mut TraverseCtx,
+) -> Result<Node, OutOfMemory>
+    ensures around { OnOk result (ctx.new.ancestors ≡ ctx.old.ancestors) }
+    ensures depth { OnOk result
+        (length (frames ctx.new.declarations) ≡ length (frames ctx.old.declarations)) }
+{
+    let storage = storage_of(accessor, field, frame, ctx)?;
+    let (is_static, is_computed) = (accessor.flag(Field::Static), accessor.flag(Field::Computed));
+    let scope = scope_of_class(frame.class, ctx);
+    create_getter(is_static, key, is_computed, storage, scope, ctx)
 }
 
 /// Makes the type of the accessor, which loses it, that of what the getter returns.
@@ -361,17 +375,18 @@ fn put_type(getter: &mut Node, accessor: &mut Node) {
 fn push_setter(
     accessor: &Node,
     key: Node,
-    storage: Node,
+    field: &Name,
     elements: &mut Vec<Part>,
-    class: NodeId,
+    frame: &ClassFrame,
     ctx: &mut TraverseCtx,
 ) -> Result<(), OutOfMemory>
     ensures around { OnOk result (ctx.new.ancestors ≡ ctx.old.ancestors) }
     ensures depth { OnOk result
         (length (frames ctx.new.declarations) ≡ length (frames ctx.old.declarations)) }
 {
+    let storage = storage_of(accessor, field, frame, ctx)?;
     let (is_static, is_computed) = (accessor.flag(Field::Static), accessor.flag(Field::Computed));
-    let scope = scope_of_class(class, ctx);
+    let scope = scope_of_class(frame.class, ctx);
     let setter = create_setter(is_static, key, is_computed, storage, scope, ctx)?;
     elements.push(Part::Node(setter))?;
     Ok(())

@@ -81,6 +81,22 @@ impl ClassReferenceChanger {
         ensures depth { OnOk result
             (length (frames ctx.new.declarations) ≡ length (frames ctx.old.declarations)) }
     {
+        self.rename_if_used(body, ctx)
+    }
+
+    /// Does so.
+    fn rename_if_used(
+        &mut self,
+        body: &mut Node,
+        ctx: &mut TraverseCtx,
+    ) -> Result<Option<BoundIdentifier>, OutOfMemory>
+        requires { 0 < length (frames ctx.old.declarations) }
+        ensures needed { IfOk result (λ alias. is_some alias
+            ≡ names_class ctx.old.scoping self.old.class.symbol_id (node_doc body.old)) }
+        ensures around { OnOk result (ctx.new.ancestors ≡ ctx.old.ancestors) }
+        ensures depth { OnOk result
+            (length (frames ctx.new.declarations) ≡ length (frames ctx.old.declarations)) }
+    {
         if self.find_uses(body, ctx)? {
             let alias = self.rename_uses(body, ctx)?;
             Ok(Some(alias))

@@ -458,13 +458,26 @@ fn put_alias_block(
     ensures depth { OnOk result
         (length (frames ctx.new.declarations) ≡ length (frames ctx.old.declarations)) }
 {
-    let alloc = ctx.memory();
-    let this = this_expression(alloc, &mut ctx.ids)?;
-    let put = assigned(Some(alias), this, ctx)?;
-    let put = statement(alloc, put, &mut ctx.ids)?;
-    let block = static_block(vec![in alloc; Part::Node(put)]?, class.id, ctx)?;
+    let block = alias_block(class.id, alias, ctx)?;
     if let Some(elements) = elements_mut(class) {
         elements.insert(0, Part::Node(block))?;
     }
     Ok(())
+}
+
+/// `static { alias = this; }`, in the class of that number.
+fn alias_block(
+    class: NodeId,
+    alias: &MaybeBoundIdentifier,
+    ctx: &mut TraverseCtx,
+) -> Result<Node, OutOfMemory>
+    ensures around { OnOk result (ctx.new.ancestors ≡ ctx.old.ancestors) }
+    ensures depth { OnOk result
+        (length (frames ctx.new.declarations) ≡ length (frames ctx.old.declarations)) }
+{
+    let alloc = ctx.memory();
+    let this = this_expression(alloc, &mut ctx.ids)?;
+    let put = assigned(Some(alias), this, ctx)?;
+    let put = statement(alloc, put, &mut ctx.ids)?;
+    static_block(vec![in alloc; Part::Node(put)]?, class, ctx)
 }

@@ -52,16 +52,44 @@ pub fn leave_method(
     if method.holds_text(Field::Kind, "constructor") {
         return Ok(());
     }
-    let mut decorators = take_decorators(ctx.memory(), method)?;
-    push_parameter_decorators(&mut decorators, method, ctx)?;
+    let decorators = method_decorators(method, metadata, ctx)?;
     if decorators.is_empty() {
         return Ok(());
+    }
+    let descriptor = null_literal(ctx.memory(), &mut ctx.ids)?;
+    push_call(frame, method, decorators, descriptor, ctx)
+}
+
+/// The decorators of the method and of its parameters, which it loses, with that metadata last; none where it has no
+/// decorators.
+fn method_decorators(
+    method: &mut Node,
+    metadata: Option<MethodMetadata>,
+    ctx: &mut TraverseCtx,
+) -> Result<Vec<Part>, OutOfMemory>
+    ensures around { OnOk result (ctx.new.ancestors ≡ ctx.old.ancestors) }
+    ensures depth { OnOk result
+        (length (frames ctx.new.declarations) ≡ length (frames ctx.old.declarations)) }
+{
+    let mut decorators = element_decorators(method, ctx)?;
+    if decorators.is_empty() {
+        return Ok(decorators);
     }
     if let Some(metadata) = metadata {
         push_method_metadata(&mut decorators, metadata, ctx)?;
     }
-    let descriptor = null_literal(ctx.memory(), &mut ctx.ids)?;
-    push_call(frame, method, decorators, descriptor, ctx)
+    Ok(decorators)
+}
+
+/// The decorators of the method and of its parameters, which it loses.
+fn element_decorators(method: &mut Node, ctx: &mut TraverseCtx) -> Result<Vec<Part>, OutOfMemory>
+    ensures around { OnOk result (ctx.new.ancestors ≡ ctx.old.ancestors) }
+    ensures depth { OnOk result
+        (length (frames ctx.new.declarations) ≡ length (frames ctx.old.declarations)) }
+{
+    let mut decorators = take_decorators(ctx.memory(), method)?;
+    push_parameter_decorators(&mut decorators, method, ctx)?;
+    Ok(decorators)
 }
 
 /// Takes the decorators of the field into a call, with its type last, if it has any.
@@ -99,14 +127,28 @@ fn push_call(
     ensures depth { OnOk result
         (length (frames ctx.new.declarations) ≡ length (frames ctx.old.declarations)) }
 {
-    let alloc = ctx.memory();
-    let target = target_of(frame, element.flag(Field::Static), ctx)?;
-    let key = key_of_call(element, ctx)?;
-    let operands = vec![in alloc; target, key, descriptor]?;
+    let operands = operands_of(frame, element, descriptor, ctx)?;
     let call = decorate_call(decorators, operands, ctx)?;
-    let call = statement(alloc, call, &mut ctx.ids)?;
+    let call = statement(ctx.memory(), call, &mut ctx.ids)?;
     frame.calls.push(Part::Node(call))?;
     Ok(())
+}
+
+/// What the call of the element has behind its decorators: what has the element, its key and its descriptor.
+fn operands_of(
+    frame: &mut ClassFrame,
+    element: &mut Node,
+    descriptor: Node,
+    ctx: &mut TraverseCtx,
+) -> Result<Vec<Node>, OutOfMemory>
+    requires { 0 < length (frames ctx.old.declarations) }
+    ensures around { OnOk result (ctx.new.ancestors ≡ ctx.old.ancestors) }
+    ensures depth { OnOk result
+        (length (frames ctx.new.declarations) ≡ length (frames ctx.old.declarations)) }
+{
+    let target = target_of(frame, element.flag(Field::Static), ctx)?;
+    let key = key_of_call(element, ctx)?;
+    Ok(vec![in ctx.memory(); target, key, descriptor]?)
 }
 
 /// What has the element: the class, or what its objects inherit from.

@@ -2,6 +2,7 @@
 ghost use Rattle.std.specs.Prelude.{◌≡◌, OnOk, length};
 ghost use Rattle.oxt_stores.specs.Frame.{frames};
 
+use crate::alias::has_alias;
 use crate::names::{made_name, name_of_class, shared, use_of};
 use indexmap::IndexSet;
 use oxt_ctx::context::TraverseCtx;
@@ -45,14 +46,20 @@ pub struct ClassFrame {
 
 impl ClassFrame {
     /// What is known of the class as it stands in the source.
-    pub fn of(alloc: Global, class: &Node, ctx: &TraverseCtx) -> Result<ClassFrame, OutOfMemory> {
+    pub fn of(
+        alloc: Global,
+        class: &mut Node,
+        ctx: &TraverseCtx,
+    ) -> Result<ClassFrame, OutOfMemory> {
         let is_declaration = class.kind.is(Kind::ClassDeclaration);
+        let is_decorated = is_declaration && is_decorated(class);
+        let has_alias = is_decorated && has_alias(class, &ctx.plan)?;
         Ok(ClassFrame {
             class: class.id,
             is_declaration,
-            is_decorated: is_declaration && is_decorated(class),
+            is_decorated,
             calls_inside: is_declaration && holds_private_in(class),
-            has_alias: false,
+            has_alias,
             has_static_part: has_static_part(elements_of(class)),
             own: name_of_class(alloc, class, &ctx.scoping)?,
             made_inside: None,

@@ -3,7 +3,6 @@ ghost use Rattle.std.specs.Prelude.{◌≡◌, ◌<◌, OnOk, [], length};
 ghost use Rattle.oxt_stores.specs.Frame.{frames};
 
 use crate::accessor::lower_accessors;
-use crate::alias::has_alias;
 use crate::class::{DecoratedClass, leave_class};
 use crate::elements::{leave_field, leave_method};
 use crate::frame::ClassFrame;
@@ -13,8 +12,8 @@ use crate::statement::{holds_class, lower_statement, statement_of};
 use oxt_ctx::context::TraverseCtx;
 use oxt_names::ids::OutOfMemory;
 use oxt_options::options::DecoratorOptions;
-use oxt_traverse::hook::Hook;
-use oxt_traverse::pass::Pass;
+use oxt_pass::hook::Hook;
+use oxt_pass::pass::Pass;
 use oxt_tree::tree::{Node, Part};
 use std::alloc::Global;
 use std::mem;
@@ -65,9 +64,7 @@ impl LegacyDecorator {
             (length (frames ctx.new.declarations) ≡ length (frames ctx.old.declarations)) }
     {
         let mut frame = ClassFrame::of(self.alloc, class, ctx)?;
-        frame.has_alias = frame.is_decorated && has_alias(class, &ctx.plan)?;
-        put_stand_ins(self.alloc, class, &mut frame, &mut ctx.ids)?;
-        lower_accessors(class, &mut frame, ctx)?;
+        enter_elements(self.alloc, class, &mut frame, ctx)?;
         self.frames.push(frame)?;
         Ok(())
     }
@@ -189,4 +186,20 @@ impl Pass for LegacyDecorator {
     ) -> Result<(), OutOfMemory> {
         Ok(())
     }
+}
+
+/// Hides the fields of the class that are only declared, and lowers its accessors.
+fn enter_elements(
+    alloc: Global,
+    class: &mut Node,
+    frame: &mut ClassFrame,
+    ctx: &mut TraverseCtx,
+) -> Result<(), OutOfMemory>
+    requires { 0 < length (frames ctx.old.declarations) }
+    ensures around { OnOk result (ctx.new.ancestors ≡ ctx.old.ancestors) }
+    ensures depth { OnOk result
+        (length (frames ctx.new.declarations) ≡ length (frames ctx.old.declarations)) }
+{
+    put_stand_ins(alloc, class, frame, &mut ctx.ids)?;
+    lower_accessors(class, frame, ctx)
 }

@@ -38,9 +38,9 @@ use oxt_metadata::typing::{design_of, returned_by};
 use oxt_names::ids::OutOfMemory;
 use oxt_names::name::Name;
 use oxt_options::options::DecoratorOptions;
+use oxt_pass::hook::Hook;
+use oxt_pass::pass::Pass;
 use oxt_stores::sparse::SparseStack;
-use oxt_traverse::hook::Hook;
-use oxt_traverse::pass::Pass;
 use oxt_tree::tree::{Node, Part};
 use std::alloc::Global;
 use std::vec;
@@ -286,13 +286,22 @@ fn push_noted(
     ensures depth { OnOk result
         (length (frames ctx.new.declarations) ≡ length (frames ctx.old.declarations)) }
 {
-    let alloc = ctx.memory();
     if let Some(value) = value {
-        let name = Name::new(alloc, name)?;
-        let key = string_literal(alloc, &name, &mut ctx.ids)?;
-        let arguments = vec![in alloc; key, value]?;
-        let call = helper_call_expr(Helper::DecorateMetadata, arguments, ctx)?;
+        let call = noted(name, value, ctx)?;
         decorators.push(Part::Node(call))?;
     }
     Ok(())
+}
+
+/// `babelHelpers.decorateMetadata(name, value)`.
+fn noted(name: &str, value: Node, ctx: &mut TraverseCtx) -> Result<Node, OutOfMemory>
+    ensures around { OnOk result (ctx.new.ancestors ≡ ctx.old.ancestors) }
+    ensures depth { OnOk result
+        (length (frames ctx.new.declarations) ≡ length (frames ctx.old.declarations)) }
+{
+    let alloc = ctx.memory();
+    let name = Name::new(alloc, name)?;
+    let key = string_literal(alloc, &name, &mut ctx.ids)?;
+    let arguments = vec![in alloc; key, value]?;
+    helper_call_expr(Helper::DecorateMetadata, arguments, ctx)
 }

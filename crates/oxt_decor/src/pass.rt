@@ -26,8 +26,8 @@ use crate::legacy::LegacyDecorator;
 use oxt_ctx::context::TraverseCtx;
 use oxt_names::ids::OutOfMemory;
 use oxt_options::options::DecoratorOptions;
-use oxt_traverse::hook::Hook;
-use oxt_traverse::pass::Pass;
+use oxt_pass::hook::Hook;
+use oxt_pass::pass::Pass;
 use oxt_tree::tree::{Node, Part};
 use std::alloc::Global;
 

@@ -23,8 +23,8 @@ use oxt_grammar::field::Field;
 use oxt_grammar::kind::Kind;
 use oxt_names::ids::OutOfMemory;
 use oxt_options::{RewriteExtensionsMode, TypeScriptOptions};
-use oxt_traverse::hook::Hook;
-use oxt_traverse::pass::Pass;
+use oxt_pass::hook::Hook;
+use oxt_pass::pass::Pass;
 use oxt_tree::tree::{Node, Part};
 use std::alloc::Global;
 

@@ -28,8 +28,8 @@ use oxt_names::flags::ReferenceFlags;
 use oxt_names::ids::OutOfMemory;
 use oxt_names::name::Name;
 use oxt_options::Module;
-use oxt_traverse::hook::Hook;
-use oxt_traverse::pass::Pass;
+use oxt_pass::hook::Hook;
+use oxt_pass::pass::Pass;
 use oxt_tree::tree::{Node, Part};
 use std::alloc::Global;
 

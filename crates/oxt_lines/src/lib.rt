@@ -1,6 +1,9 @@
-//! The lines that programs print of public calls, and the trees on which they make them.
+//! What the programs that run tables share: the cases of a table of runs, the trees on which calls are made, and the lines that
+//! are printed of them.
 #![tactic(auto)]
 
+pub mod case;
+mod input;
 pub mod lines;
 pub mod nodes;
 pub mod source;

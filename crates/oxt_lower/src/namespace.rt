@@ -31,8 +31,8 @@ use oxt_ctx::context::TraverseCtx;
 use oxt_grammar::field::Field;
 use oxt_names::ids::OutOfMemory;
 use oxt_options::TypeScriptOptions;
-use oxt_traverse::hook::Hook;
-use oxt_traverse::pass::Pass;
+use oxt_pass::hook::Hook;
+use oxt_pass::pass::Pass;
 use oxt_tree::fields::place_of;
 use oxt_tree::tree::{Node, Part};
 

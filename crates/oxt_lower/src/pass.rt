@@ -25,8 +25,8 @@ use crate::inline::inline_constant;
 use crate::statement::{drop_blocks, lower_statement};
 use oxt_ctx::context::TraverseCtx;
 use oxt_names::ids::OutOfMemory;
-use oxt_traverse::hook::Hook;
-use oxt_traverse::pass::Pass;
+use oxt_pass::hook::Hook;
+use oxt_pass::pass::Pass;
 use oxt_tree::tree::{Node, Part};
 
 /// The pass that puts in the place of each block of an enum the call of a function that makes the

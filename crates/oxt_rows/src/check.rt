@@ -1,7 +1,7 @@
 //! Running a case and comparing what came with what is wanted.
 ghost use Rattle.std.specs.Prelude.{◌≡◌, ◌<◌, IfOk, IsNone};
 
-use crate::case::{Case, Wanted};
+use oxt_lines::case::{Case, Wanted};
 use oxt_transform::{MemorySink, MemorySource, run};
 use std::alloc::{AllocError, Global};
 

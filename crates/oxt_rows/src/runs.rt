@@ -1,5 +1,7 @@
 //! A run over a source and sinks that never fail, and the settings of an output beside those of its source.
 
+use oxt_certificate::certificate::find_mismatch;
+use oxt_certificate::expected::Expected;
 use oxt_lines::lines::Lines;
 use oxt_lines::stopped::Stopped;
 use oxt_lines::table::Table;
@@ -7,8 +9,6 @@ use oxt_options::options::TransformOptions;
 use oxt_options::plan::Plan;
 use oxt_resolve::resolve::{Resolution, TreeNames, resolve_names};
 use oxt_scoping::scoping::Scoping;
-use oxt_transform::certificate::find_mismatch;
-use oxt_transform::expected::Expected;
 use oxt_transform::{Mismatch, SureSink, SureSource, run};
 use oxt_tree::tree::Node;
 use std::alloc::Global;

@@ -30,17 +30,17 @@ use Rattle.oxt_grammar.specs.declared.category.Category.TheVariants as category
 use Rattle.oxt_grammar.specs.declared.holds.Holds.TheVariants as holds
 use Rattle.oxt_check.proofs.Kept.{plain_beside_nothing}
 use Rattle.oxt_check.specs.Targets.{is_listed, targets}
-use Rattle.oxt_transform.proofs.Spans.{exports_stand}
+use Rattle.oxt_certificate.proofs.Spans.{exports_stand}
 use Rattle.oxt_transform.proofs.Told.{no_targets}
-use Rattle.oxt_transform.specs.Expected.{ExpectedData, asked_by, expected_by, expected_of, fault_of, is_due, keeps, listed_in, names_of}
-use Rattle.oxt_transform.specs.Exports.{body}
+use Rattle.oxt_certificate.specs.Expected.{ExpectedData, asked_by, expected_by, expected_of, fault_of, is_due, keeps, listed_in, names_of}
+use Rattle.oxt_certificate.specs.Exports.{body}
 use Rattle.oxt_transform.specs.Faults.{refusal_in, IsReasonFor}
 use Rattle.oxt_transform.specs.Lowering.{IsTextOfOne, Lowers, Passes, ReturnsPlain, tells_of_wrapper}
 use Rattle.oxt_transform.specs.Outcomes.{AnswerCut, CutOff, IfRefused, IsAnswerUncertifiedOrMemory, IsRefusedMemoryOrWriteFault, LowersToLines, NothingStands, OnWriteFault, Reported, is_uncertified, limit, options_in}
 use Rattle.oxt_transform.specs.Plain.{ComesBack, as_javascript, is_left_alone, is_plain_source}
 use Rattle.oxt_transform.specs.Refusals.{Accepts, Difference, Hinders, IsHindrance, IsFailure, Judges, Refusal, Refuses, captured_name, is_plain_output, json, misplaced_node, shape, uncertified, wide_member}
-use Rattle.oxt_transform.specs.Settings.{SettingsData, differs, has_exports, has_language, is_decorated, is_script, wrong_setting}
-use Rattle.oxt_transform.specs.Decorators.{has_decorator}
+use Rattle.oxt_certificate.specs.Settings.{SettingsData, differs, has_exports, has_language, is_decorated, is_script, wrong_setting}
+use Rattle.oxt_certificate.specs.Decorators.{has_decorator}
 use Rattle.oxt_transform.specs.declared.program.Outcome.{Outcome}
 use Rattle.oxt_transform.specs.declared.program.Outcome.TheVariants.{Done, Diagnosed, Refused, Usage, ReadFault, WriteFault, Memory, TooLong}
 use Rattle.oxt_tree.specs.Doc.{Doc}

@@ -1,12 +1,6 @@
-pub mod Bound
-pub mod BoundViews
-pub mod Decorators
-pub mod Expected
-pub mod Exports
 pub mod Faults
 pub mod Lowering
 pub mod Outcomes
 pub mod Places
 pub mod Plain
 pub mod Refusals
-pub mod Settings

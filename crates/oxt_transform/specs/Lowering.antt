@@ -14,13 +14,13 @@ use Rattle.oxt_grammar.specs.declared.holds.Holds.TheVariants as holds
 use Rattle.oxt_check.specs.Beside.{is_plain_beside}
 use Rattle.oxt_check.specs.Targets.{is_listed, targets}
 use Rattle.oxt_tree.specs.Doc.{Doc}
-use Rattle.oxt_transform.specs.Bound.{misbound}
-use Rattle.oxt_transform.specs.Expected.{expected_of, fault_of, is_due, keeps, known_of_output, names_of, output_word, source_word}
-use Rattle.oxt_transform.specs.Decorators.{has_decorator}
-use Rattle.oxt_transform.specs.Exports.{HasExports}
+use Rattle.oxt_certificate.specs.Bound.{misbound}
+use Rattle.oxt_certificate.specs.Expected.{expected_of, fault_of, is_due, keeps, known_of_output, names_of, output_word, source_word}
+use Rattle.oxt_certificate.specs.Decorators.{has_decorator}
+use Rattle.oxt_certificate.specs.Exports.{HasExports}
 use Rattle.oxt_transform.specs.Plain.{as_javascript, is_plain_source, leaves_javascript}
 use Rattle.oxt_transform.specs.Refusals.{Judges}
-use Rattle.oxt_transform.specs.Settings.{settings_by, wrong_setting}
+use Rattle.oxt_certificate.specs.Settings.{settings_by, wrong_setting}
 use Rattle.oxt_valid.specs.Plain.{is_plain}
 use Rattle.oxt_valid.specs.Valid.{is_tree}
 use Rattle.serde_json.specs.Written.{IsInOrder}

@@ -1,19 +1,21 @@
 -- What a run answers, and what that says of the words, the source and the sinks.
-use Rattle.std.specs.Prelude.{◌≡◌, ◌≤◌, ℕ, Bool, true, false, not, ◌==◌, List, [], ◌∷◌, ◌++◌, length, map, Option, Some, codes, ⊤}
+use Rattle.std.specs.Prelude.{◌≡◌, ◌≤◌, ℕ, Bool, true, false, not, ◌==◌, List, [], ◌∷◌, ◌++◌, length, map, Option, None, Some, is_some, codes, ⊤}
 use Rattle.std.specs.Io.KnownBytes.{Appends}
 use Rattle.oxt_names.specs.Line.{lines_of}
 use Rattle.oxt_names.specs.declared.diagnostic.OxcDiagnostic.{OxcDiagnostic}
 use Rattle.oxt_flags.specs.Flags.{parsed}
 use Rattle.oxt_io.specs.Counts.{Rose}
-use Rattle.oxt_io.specs.Passed.{GaveAll, AppendsPrefix}
+use Rattle.oxt_io.specs.Passed.{GaveAll, GavePast, AppendsPrefix}
 use Rattle.oxt_options.specs.Options.{TransformData}
 use Rattle.oxt_transform.specs.Lowering.{Lowers}
-use Rattle.oxt_transform.specs.Faults.{refusal_in}
+use Rattle.oxt_transform.specs.Faults.{refusal_in, IsReasonFor}
 use Rattle.oxt_transform.specs.Refusals.{Refusal, uncertified, Refuses, Accepts, line_of}
 use Rattle.oxt_io.specs.declared.outcome.InputFault.{InputFault}
 use Rattle.oxt_io.specs.declared.outcome.InputFault.TheVariants as input
 use Rattle.oxt_check.specs.declared.fault.Fault.{Fault}
 use Rattle.oxt_transform.specs.declared.program.Outcome.{Outcome}
+use Rattle.oxt_transform.specs.declared.program.Stop.{Stop}
+use Rattle.oxt_transform.specs.declared.program.Stop.TheVariants as stop
 use Rattle.oxt_names.specs.Names.{name_bytes}
 use Rattle.oxt_names.specs.declared.name.Name.{Name}
 use Rattle.oxt_transform.specs.declared.program.Outcome.TheVariants.{Done, Diagnosed, Refused, Usage, ReadFault, WriteFault, Memory, TooLong}
@@ -156,6 +158,37 @@ pub record LowersToLines (options : TransformData) (bytes lines : List ℕ) (som
   pub lowered : Lowers options bytes told text
   pub some : is_any told ≡ some_told
   pub ended : lines ≡ answer_of text told
+
+-- All that the source held was lowered under the options of the words, to these lines.
+pub record LoweredFrom (words : List Name) (some_told : Bool) (lines : List ℕ) (left left' : Option (List ℕ)) : Type 0 where
+  pub options : TransformData
+  pub given : options_in words ≡ Some options
+  pub bytes : List ℕ
+  pub read : GaveAll left left' bytes
+  pub within : length bytes ≤ limit
+  pub lowered : LowersToLines options bytes lines some_told
+
+-- All that the source held is not lowered under the options of the words, for that reason.
+pub record HinderedFrom (words : List Name) (reason : Option Refusal) (left left' : Option (List ℕ)) : Type 0 where
+  pub options : TransformData
+  pub given : options_in words ≡ Some options
+  pub bytes : List ℕ
+  pub read : GaveAll left left' bytes
+  pub within : length bytes ≤ limit
+  pub cause : IsReasonFor reason options bytes
+
+-- the source was not read to its end by that cause
+abbrev pub IsCauseOf : InputFault → Option (List ℕ) → Option (List ℕ) → ℕ → ℕ → Type 0
+IsCauseOf input.Memory left left' faults faults' = ⊤
+IsCauseOf input.Fault left left' faults faults' = Rose faults faults'
+IsCauseOf input.TooLong left left' faults faults' = GavePast left left' limit
+
+-- there is nothing to write for that cause
+abbrev pub StopsFor : Stop → List Name → Option (List ℕ) → Option (List ℕ) → ℕ → ℕ → Type 0
+StopsFor (stop.Refused f) words left left' faults faults' = HinderedFrom words (refusal_in f) left left'
+StopsFor stop.Usage words left left' faults faults' = options_in words ≡ None
+StopsFor (stop.Input f) words left left' faults faults' = (is_some (options_in words) ≡ true) × IsCauseOf f left left' faults faults'
+StopsFor stop.Memory words left left' faults faults' = ⊤
 
 -- The fault handed on is the one that came, and err took its line.
 pub record Reported (came named : Option Refusal) (taken taken' : Option (List ℕ)) : Type 0 where

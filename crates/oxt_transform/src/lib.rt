@@ -1,23 +1,17 @@
 //! From the bytes of a TypeScript tree to those of a plain JavaScript tree, and the program's one call.
 #![tactic(auto)]
 
-mod bound;
-pub mod certificate;
-mod decorators;
-pub mod expected;
-mod exports;
 pub mod fault;
 mod passes;
 mod plain_source;
 pub mod program;
-pub mod settings;
 mod staying;
 pub mod transform;
 pub mod typescript;
 
 pub use crate::typescript::TypeScript;
-pub use certificate::Mismatch;
 pub use fault::Fault;
+pub use oxt_certificate::Mismatch;
 pub use oxt_io::{
     Failed, MemorySink, MemorySource, ReaderSource, Sink, Source, SureSink, SureSource, WriterSink,
 };

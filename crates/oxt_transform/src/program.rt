@@ -6,7 +6,7 @@ ghost use Rattle.oxt_io.specs.Passed.{GavePast};
 ghost use Rattle.oxt_options.specs.Options.{transform_view};
 ghost use Rattle.oxt_transform.specs.Faults.{refusal_in, IsReasonFor};
 ghost use Rattle.oxt_transform.specs.Lowering.{Lowers};
-ghost use Rattle.oxt_transform.specs.Outcomes.{limit, options_in, usage_line, status_of, OnDone, OnDiagnosed, OnAnswer, IfRefused, OnUsage, OnReadFault, OnWriteFault, OnTooLong, OnNoAnswer, OnNoMessage, UnlessUsage, IsAnswerUncertifiedOrMemory, Answered, RefusedFor, CutOff, OnMemory, IsUsageOrWriteFault, IsAnswerOrWriteFault, IsRefusedMemoryOrWriteFault, input_outcome, LowersToLines, Reported, ReportCut, AnswerCut, RefusalCut, UsageCut, NothingStands};
+ghost use Rattle.oxt_transform.specs.Outcomes.{limit, options_in, usage_line, status_of, OnDone, OnDiagnosed, OnAnswer, IfRefused, OnUsage, OnReadFault, OnWriteFault, OnTooLong, OnNoAnswer, OnNoMessage, UnlessUsage, IsAnswerUncertifiedOrMemory, Answered, RefusedFor, CutOff, OnMemory, IsUsageOrWriteFault, IsAnswerOrWriteFault, IsRefusedMemoryOrWriteFault, input_outcome, LoweredFrom, LowersToLines, Reported, ReportCut, AnswerCut, RefusalCut, UsageCut, NothingStands, StopsFor};
 ghost use Rattle.oxt_transform.specs.Refusals.{line_of};
 
 use crate::fault::Fault;
@@ -106,18 +106,47 @@ pub fn run<S: Source, O: Sink, E: Sink>(
     ensures quiet_out { OnNoAnswer result (O.taken out.new ≡ O.taken out.old) }
     ensures quiet_err { OnNoMessage result (E.taken err.new ≡ E.taken err.old) }
 {
+    match lower_source(alloc, words, source) {
+        Ok(Reply { lines, is_told }) => answer(out, lines.as_slice(), is_told),
+        Err(Stop::Refused(fault)) => refuse(alloc, fault, err),
+        Err(Stop::Usage) => answer_usage(err),
+        Err(Stop::Input(fault)) => outcome_of_input(fault),
+        Err(Stop::Memory) => Outcome::Memory,
+    }
+}
+
+// Why there is nothing to write.
+#[derive(Drop)]
+enum Stop {
+    // The bytes are refused.
+    Refused(Fault),
+    // The words were not taken.
+    Usage,
+    // The source was not read to its end.
+    Input(InputFault),
+    // There was no memory for the options.
+    Memory,
+}
+
+// Lowers what the source holds, under the options of the words.
+fn lower_source<S: Source>(alloc: Global, words: &[Name], source: &mut S) -> Result<Reply, Stop>
+    ensures lowered { IfOk result (λ r.
+        LoweredFrom words.now r.is_told r.lines.items (S.left source.old) (S.left source.new)) }
+    ensures stopped { IfErr result (λ s.
+        StopsFor s words.now (S.left source.old) (S.left source.new) (S.faults source.old) (S.faults source.new)) }
+{
     let options = match options_of(alloc, words) {
         Ok(Some(options)) => options,
-        Ok(None) => return answer_usage(err),
-        Err(_) => return Outcome::Memory,
+        Ok(None) => return Err(Stop::Usage),
+        Err(_) => return Err(Stop::Memory),
     };
     let bytes = match read_to_limit(alloc, source, LIMIT) {
         Ok(bytes) => bytes,
-        Err(fault) => return outcome_of_input(fault),
+        Err(fault) => return Err(Stop::Input(fault)),
     };
     match lowered_lines(alloc, bytes.as_slice(), &options) {
-        Ok(Reply { lines, is_told }) => answer(out, lines.as_slice(), is_told),
-        Err(fault) => refuse(alloc, fault, err),
+        Ok(reply) => Ok(reply),
+        Err(fault) => Err(Stop::Refused(fault)),
     }
 }
 

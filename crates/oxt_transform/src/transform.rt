@@ -9,7 +9,7 @@ ghost use Rattle.oxt_options.specs.Facts.{Answers};
 ghost use Rattle.oxt_resolve.specs.Groups.{groups_of};
 ghost use Rattle.oxt_resolve.specs.Resolved.{resolved};
 ghost use Rattle.oxt_told.specs.Source.{asked_of};
-ghost use Rattle.oxt_transform.specs.Expected.{expected_beside, expected_view, fault_of, keeps, names_of};
+ghost use Rattle.oxt_certificate.specs.Expected.{expected_beside, expected_view, fault_of, keeps, names_of};
 ghost use Rattle.oxt_transform.specs.Faults.{refusal_in, IsReasonFor, text_in, told_in};
 ghost use Rattle.oxt_transform.specs.Lowering.{IsTextOfOne, Lowers, Passes, ReturnsPlain};
 ghost use Rattle.oxt_transform.specs.Outcomes.{answer_of};
@@ -18,11 +18,11 @@ ghost use Rattle.oxt_transform.specs.Refusals.{Accepts, IsFailure, IsHindrance, 
 ghost use Rattle.oxt_tree.specs.View.{node_doc};
 ghost use Rattle.oxt_valid.specs.Valid.{is_tree};
 
-use crate::certificate::certify;
-use crate::expected::Expected;
 use crate::fault::{Fault, fault_of_reading};
 use crate::passes::{Tables, rewrite};
 use crate::staying::staying_wrappers;
+use oxt_certificate::certificate::certify;
+use oxt_certificate::expected::Expected;
 use oxt_check::check;
 use oxt_check::diagnose::diagnostics_of;
 use oxt_check::targets::WrappedTargets;

@@ -3,7 +3,5 @@
 
 pub mod both;
 pub mod dispatch;
-pub mod hook;
 pub mod nothing;
-pub mod pass;
 pub mod traverse;

@@ -1,15 +1,16 @@
 //! What a pass does at the nodes of a tree.
 ghost use Rattle.std.specs.Prelude.{◌≡◌, Bool, List, [], OnOk, false, true};
-ghost use Rattle.oxt_traverse.specs.Level.{IsOpen, IsOpenAt};
-ghost use Rattle.oxt_traverse.specs.Ran.{HasRun};
-ghost use Rattle.oxt_traverse.specs.Visits.{Visit};
-ghost use Rattle.oxt_traverse.specs.declared.hook.Hook.TheVariants as hook;
+ghost use Rattle.oxt_pass.specs.Level.{IsOpen, IsOpenAt};
+ghost use Rattle.oxt_pass.specs.Ran.{HasRun};
+ghost use Rattle.oxt_pass.specs.Visits.{Visit};
+ghost use Rattle.oxt_pass.specs.declared.hook.Hook.TheVariants as hook;
 ghost use Rattle.oxt_tree.specs.Doc.{list};
 ghost use Rattle.oxt_tree.specs.View.{docs_in, node_doc};
 
-use crate::hook::Hook;
 use oxt_ctx::context::TraverseCtx;
 use oxt_names::ids::OutOfMemory;
+use oxt_pass::hook::Hook;
+use oxt_pass::pass::Pass;
 use oxt_tree::tree::{Node, Part};
 
 /// A pass over a tree: a hook for each place at which a pass may do something. The walk calls it
@@ -556,5 +557,32 @@ pub trait Traverse {
         ensures { OnOk result (HasRun (watches ≡ true) trace hook.EnterExportFromDeclaration (node_doc node.old) (node_doc node.new) ctx.old ctx.new (log self.old) (log self.new)) }
     {
         self.at_node(Hook::EnterExportFromDeclaration, node, ctx)
+    }
+}
+
+// The named hooks are proved here once for all such passes, and anew for each pass that writes one itself.
+impl<P: Pass> Traverse for P {
+    ghost watches = { P.watches };
+
+    ghost log = { P.log };
+
+    ghost trace = { P.trace };
+
+    fn at_node(
+        &mut self,
+        hook: Hook,
+        node: &mut Node,
+        ctx: &mut TraverseCtx,
+    ) -> Result<(), OutOfMemory> {
+        Pass::at_node(self, hook, node, ctx)
+    }
+
+    fn at_statements(
+        &mut self,
+        hook: Hook,
+        statements: &mut Vec<Part>,
+        ctx: &mut TraverseCtx,
+    ) -> Result<(), OutOfMemory> {
+        Pass::at_statements(self, hook, statements, ctx)
     }
 }

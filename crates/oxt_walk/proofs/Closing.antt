@@ -8,7 +8,7 @@ use Rattle.oxt_ctx.specs.Context.{Context}
 use Rattle.oxt_stores.specs.Frame.{Frame, below_top, no_declarators, top_frame}
 use Rattle.oxt_stores.specs.Insertion.{Entry, docs, pending}
 use Rattle.oxt_stores.specs.Placed.{around, found, is_numbered, left, placed, waiting_for, without}
-use Rattle.oxt_traverse.specs.Level.{IsUntouched, declared, waits}
+use Rattle.oxt_pass.specs.Level.{IsUntouched, declared, waits}
 use Rattle.oxt_tree.specs.Doc.{Doc, nil, flag, number, text, list, node, docs_of}
 use Rattle.oxt_tree.specs.View.{docs_in}
 use Rattle.oxt_tree.specs.declared.tree.Part.{Part}

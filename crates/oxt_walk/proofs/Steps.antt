@@ -6,7 +6,7 @@ use Rattle.oxt_ctx.specs.Context.{Context}
 use Rattle.oxt_stores.specs.Frame.{frames}
 use Rattle.oxt_stores.specs.Insertion.{pending}
 pub use Rattle.oxt_traverse.proofs.Logs.{on_ok, untouched_on, untouched_under}
-use Rattle.oxt_traverse.specs.Level.{IsLevel, IsUntouched}
+use Rattle.oxt_pass.specs.Level.{IsLevel, IsUntouched}
 use Rattle.oxt_tree.specs.Doc.{Doc, Docs, doc}
 use Rattle.oxt_tree.specs.View.{docs_in, part_doc}
 use Rattle.oxt_tree.specs.declared.tree.Part.{Part}

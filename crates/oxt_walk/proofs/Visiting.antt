@@ -12,8 +12,8 @@ use Rattle.oxt_grammar.specs.declared.category.Category.{Category}
 use Rattle.oxt_grammar.specs.declared.holds.Row.{Row}
 use Rattle.oxt_grammar.specs.declared.kind.Kind.{Kind}
 use Rattle.oxt_traverse.proofs.Logs.{Remains, logged_as, logged_on, logged_one, rest_more, rest_none}
-use Rattle.oxt_traverse.specs.Visits.{HasLogged, Visit, visit, entered, left}
-use Rattle.oxt_traverse.specs.declared.hook.Hook.TheVariants as hook
+use Rattle.oxt_pass.specs.Visits.{HasLogged, Visit, visit, entered, left}
+use Rattle.oxt_pass.specs.declared.hook.Hook.TheVariants as hook
 use Rattle.oxt_names.proofs.Lists.{drop_at}
 use Rattle.oxt_tree.proofs.Places.{named_at}
 use Rattle.oxt_tree.specs.Doc.{Doc, nil, list, Docs}

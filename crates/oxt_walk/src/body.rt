@@ -2,7 +2,7 @@
 ghost use Rattle.std.specs.Prelude.{◌≡◌, ◌+◌, ◌++◌, ◌∷◌, [], IfOk, OnOk, length, option_map, option_to_list};
 ghost use Rattle.oxt_stores.specs.Frame.{below_top, top_frame};
 ghost use Rattle.oxt_stores.specs.Insertion.{docs};
-ghost use Rattle.oxt_traverse.specs.Level.{IsOpen, declared};
+ghost use Rattle.oxt_pass.specs.Level.{IsOpen, declared};
 ghost use Rattle.oxt_tree.specs.View.{node_doc};
 ghost use Rattle.oxt_walk.specs.Closed.{arrow_body, body_of, declarations, returned};
 

@@ -3,7 +3,7 @@ ghost use Rattle.std.specs.Prelude.{◌≡◌, ◌+◌, ◌<◌, ◌≤◌, ◌+
 ghost use Rattle.oxt_stores.specs.Frame.{below_top, frames, no_declarators, top_frame};
 ghost use Rattle.oxt_stores.specs.Insertion.{docs};
 ghost use Rattle.oxt_stores.specs.Placed.{left, placed};
-ghost use Rattle.oxt_traverse.specs.Level.{IsOpen, declared, waits};
+ghost use Rattle.oxt_pass.specs.Level.{IsOpen, declared, waits};
 ghost use Rattle.oxt_tree.specs.View.{node_doc, part_doc};
 ghost use Rattle.oxt_walk.specs.Closed.{below_imports, declarations, imports, with_declarations};
 

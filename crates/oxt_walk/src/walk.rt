@@ -1,7 +1,7 @@
 //! The one walk over a tree.
 ghost use Rattle.std.specs.Prelude.{◌≡◌, OnOk, codes};
-ghost use Rattle.oxt_traverse.specs.Level.{IsLevel, IsOpen, IsUntouched};
-ghost use Rattle.oxt_traverse.specs.Visits.{HasLogged};
+ghost use Rattle.oxt_pass.specs.Level.{IsLevel, IsOpen, IsUntouched};
+ghost use Rattle.oxt_pass.specs.Visits.{HasLogged};
 ghost use Rattle.oxt_tree.specs.Doc.{list};
 ghost use Rattle.oxt_tree.specs.Fields.{field_of};
 ghost use Rattle.oxt_tree.specs.View.{docs_in, node_doc, part_doc};

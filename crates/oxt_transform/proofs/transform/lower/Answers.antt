@@ -5,7 +5,7 @@ use Rattle.oxt_options.specs.Options.{transform_view}
 use Rattle.oxt_told.specs.Source.{asked_of}
 use Rattle.oxt_transform.proofs.Steps.{failed, fault_hinders, passed, told_same}
 use Rattle.oxt_transform.proofs.transform.lower.Goals as goal
-use Rattle.oxt_transform.specs.Expected.{expected_beside}
+use Rattle.oxt_certificate.specs.Expected.{expected_beside}
 use Rattle.oxt_transform.specs.Faults.{refusal_in}
 use Rattle.oxt_transform.specs.Refusals.{IsFailure, Judges}
 use Rattle.oxt_tree.specs.View.{node_doc}

@@ -1,0 +1,3 @@
+mod Bindings
+mod Quick
+pub mod Spans

@@ -1,7 +1,0 @@
--- What is left of both decides.
-use Rattle.std.proofs.Common.{◌≡◌, drop}
-use Rattle.oxt_transform.specs.Exports.{same_spans}
-use Rattle.oxt_transform.proofs.exports.same_spans.Given as goal
-
-abbrev pub invariant-loop-i : goal.invariant-loop-i
-invariant-loop-i l = same_spans l.a l.b ≡ same_spans (drop l.i l.a) (drop l.i l.b)
