@@ -192,7 +192,13 @@ def slow_functions(clone, names):
     return [(s, function, shared_by(clone, function)) for s, function in slow]
 
 
-def page(last, elapsed, seconds, slow):
+def library_sizes(clone):
+    """What each crate wrote of itself and of what it names for those above, in MB."""
+    libraries = {path.parent.parent.stem: path for path in clone.glob("crates/*/out/rlib/*.rlib/toolchain/checked.a")}
+    return collections.Counter({crate: path.stat().st_size // 10**6 for crate, path in libraries.items()})
+
+
+def page(last, elapsed, seconds, sizes, slow):
     """The text of docs/GATE.md."""
     sums = collections.Counter()
     for counted in seconds.values():
@@ -208,12 +214,12 @@ def page(last, elapsed, seconds, slow):
         f"{elapsed / 60:.0f} minutes on {cores} idle cores and {memory} GB: {last}. Of one processor it would take "
         f"{sum(sums.values()) / 60:.0f} minutes.",
         "",
-        "Seconds of one processor, by crate: its proof, its must-fail edits, and building and running a program.",
+        "Seconds of one processor, by crate: its proof, its must-fail edits, and building and running a program; and the MB of its library.",
         "",
-        "| Crate | Proof | Edits | Programs |",
-        "|---|---|---|---|",
-        *[f"| `{crate}` | {cells(counted)} |" for crate, counted in rows],
-        f"| all | {cells(sums)} |",
+        "| Crate | Proof | Edits | Programs | Library |",
+        "|---|---|---|---|---|",
+        *[f"| `{crate}` | {cells(counted)} | {sizes[crate]} |" for crate, counted in rows],
+        f"| all | {cells(sums)} | {sum(sizes.values())} |",
         "",
         f"Proofs that take {LISTED} seconds or more, with as many checks at once as there are cores. Functions that call one another have one proof, "
         "which is named for their cycle:",
@@ -235,10 +241,11 @@ def main():
         clone = pathlib.Path(room) / "oxt"
         subprocess.run(["git", "clone", "-q", REPO, clone], check=True)
         last, elapsed, seconds = run_gate(clone)
-        OUT.write_text(page(last, elapsed, seconds, []), encoding="utf-8")
+        sizes = library_sizes(clone)
+        OUT.write_text(page(last, elapsed, seconds, sizes, []), encoding="utf-8")
         print(f"{last}, {elapsed:.0f} s; {OUT.relative_to(REPO)} is written, and its functions are timed", flush=True)
         dear = [name for name, counted in seconds.items() if counted[PROOF] > CHEAP]
-        OUT.write_text(page(last, elapsed, seconds, slow_functions(clone, dear)), encoding="utf-8")
+        OUT.write_text(page(last, elapsed, seconds, sizes, slow_functions(clone, dear)), encoding="utf-8")
 
 
 if __name__ == "__main__":
