@@ -4,19 +4,19 @@ ghost use Rattle.oxt_check.specs.Targets.{is_listed, numbers_in, targets};
 ghost use Rattle.oxt_tree.specs.View.{node_doc};
 
 use crate::push::push_from_node;
-use indexmap::IndexSet;
 use oxt_grammar::category::Category;
 use oxt_grammar::holds::Holds;
 use oxt_names::ids::{NodeId, OutOfMemory};
 use oxt_tree::tree::Node;
 use std::alloc::Global;
+use std::collections::HashSet;
 use std::marker::Model;
 
 /// The wrappers of a program that stay where something is assigned, as `f() as any` in `(f() as any)++`: around
 /// neither an identifier nor a member they cannot be opened.
 #[derive(Drop)]
 pub struct WrappedTargets {
-    set: IndexSet<u64>,
+    set: HashSet<u64>,
     nodes: Vec<NodeId>,
 }
 
@@ -50,7 +50,7 @@ impl WrappedTargets {
         ensures { result ≡ [] }
     {
         WrappedTargets {
-            set: IndexSet::new(alloc),
+            set: HashSet::new(alloc),
             nodes: Vec::new(alloc),
         }
     }
@@ -92,7 +92,7 @@ pub fn wrapped_targets(
 }
 
 /// The numbers of the nodes.
-fn set_of(alloc: Global, nodes: &[NodeId]) -> Result<IndexSet<u64>, OutOfMemory>
+fn set_of(alloc: Global, nodes: &[NodeId]) -> Result<HashSet<u64>, OutOfMemory>
     ensures { IfOk result (λ set. (n : ℕ) → is_listed set.keys n ≡ is_listed (numbers_in nodes.now) n) }
 {
     Ok(nodes.iter().map(|node| node.0).collect(alloc)?)

@@ -5,7 +5,6 @@ ghost use Rattle.oxt_ctx.specs.Made.{but_names_of};
 
 use crate::elements::elements_mut;
 use crate::params::{name_of, property_pattern};
-use indexmap::IndexSet;
 use oxt_ctx::context::TraverseCtx;
 use oxt_ctx::functions::field;
 use oxt_ctx::nodes::property_name;
@@ -16,6 +15,7 @@ use oxt_names::ids::{NodeIds, OutOfMemory};
 use oxt_names::name::Name;
 use oxt_tree::tree::{Node, Part};
 use std::alloc::Global;
+use std::collections::HashSet;
 use std::mem;
 
 /// Puts an empty field in front of the elements of the class for each parameter that is a property, unless
@@ -55,7 +55,7 @@ fn property_fields(
     let elements = elements_of(class);
     match constructor_of(elements) {
         Some(constructor) => {
-            let mut taken = IndexSet::new(alloc);
+            let mut taken = HashSet::new(alloc);
             take_names(elements, &mut taken)?;
             fields_of(alloc, parameters_of(constructor), &mut taken, ids)
         }
@@ -64,7 +64,7 @@ fn property_fields(
 }
 
 /// Notes the names that the instance fields and accessors among the elements have.
-fn take_names<'a>(elements: &'a [Part], taken: &mut IndexSet<&'a str>) -> Result<(), OutOfMemory> {
+fn take_names<'a>(elements: &'a [Part], taken: &mut HashSet<&'a str>) -> Result<(), OutOfMemory> {
     for element in elements {
         if let Some(name) = field_name(element) {
             taken.insert(name)?;
@@ -94,7 +94,7 @@ fn named_key(key: &Node) -> Option<&str> {
 fn fields_of<'a>(
     alloc: Global,
     params: &'a [Part],
-    taken: &mut IndexSet<&'a str>,
+    taken: &mut HashSet<&'a str>,
     ids: &mut NodeIds,
 ) -> Result<Vec<Part>, OutOfMemory> {
     let mut fields = Vec::new(alloc);
@@ -107,7 +107,7 @@ fn fields_of<'a>(
 /// Appends the field of the parameter, if it is a property of a name that is not taken yet.
 fn push_field<'a>(
     fields: &mut Vec<Part>,
-    taken: &mut IndexSet<&'a str>,
+    taken: &mut HashSet<&'a str>,
     param: &'a Part,
     ids: &mut NodeIds,
 ) -> Result<(), OutOfMemory> {

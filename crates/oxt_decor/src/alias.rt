@@ -20,7 +20,6 @@ ghost use Rattle.oxt_tree.specs.View.{node_doc};
 use crate::shorthand::open_shorthands;
 use crate::used::used_names;
 use bitflags::Flags;
-use indexmap::IndexSet;
 use oxt_ctx::context::TraverseCtx;
 use oxt_ctx::nodes::reference;
 use oxt_ctx::parts::child_mut;
@@ -36,6 +35,7 @@ use oxt_stores::bound::BoundIdentifier;
 use oxt_tree::tree::Node;
 use oxt_visit::visitor::VisitMut;
 use oxt_visit::walk::visit_mut;
+use std::collections::HashSet;
 
 /// A visitor that puts another name, once it has one, in the place of the uses of a class.
 #[derive(Drop)]
@@ -43,7 +43,7 @@ pub struct ClassReferenceChanger {
     /// The class.
     class: BoundIdentifier,
     /// The numbers of its uses.
-    uses: IndexSet<u64>,
+    uses: HashSet<u64>,
     /// The name that they become.
     alias: Option<Name>,
     /// Where the numbers of made nodes come from.
@@ -57,7 +57,7 @@ impl ClassReferenceChanger {
     {
         ClassReferenceChanger {
             class: class_binding,
-            uses: IndexSet::new(ctx.memory()),
+            uses: HashSet::new(ctx.memory()),
             alias: None,
             ids: ctx.ids,
         }

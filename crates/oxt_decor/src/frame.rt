@@ -4,7 +4,6 @@ ghost use Rattle.oxt_stores.specs.Frame.{frames};
 
 use crate::alias::has_alias;
 use crate::names::{made_name, name_of_class, shared, use_of};
-use indexmap::IndexSet;
 use oxt_ctx::context::TraverseCtx;
 use oxt_ctx::maybe::MaybeBoundIdentifier;
 use oxt_declares::calls::is_decorated;
@@ -16,6 +15,7 @@ use oxt_names::flags::ReferenceFlags;
 use oxt_names::ids::{NodeId, OutOfMemory};
 use oxt_tree::tree::{Node, Part};
 use std::alloc::Global;
+use std::collections::HashSet;
 
 /// What is known of a class that is being walked, and what was made for it so far.
 #[derive(Drop)]
@@ -39,7 +39,7 @@ pub struct ClassFrame {
     /// The name that was made to name it from around it.
     pub made_around: Option<MaybeBoundIdentifier>,
     /// The numbers of the elements that stand for fields which are only declared.
-    pub stand_ins: IndexSet<u64>,
+    pub stand_ins: HashSet<u64>,
     /// The calls of its elements, in their order.
     pub calls: Vec<Part>,
 }
@@ -64,7 +64,7 @@ impl ClassFrame {
             own: name_of_class(alloc, class, &ctx.scoping)?,
             made_inside: None,
             made_around: None,
-            stand_ins: IndexSet::new(alloc),
+            stand_ins: HashSet::new(alloc),
             calls: Vec::new(alloc),
         })
     }

@@ -22,7 +22,6 @@
 //! ```
 use crate::frame::ClassFrame;
 use crate::parts::{as_node, elements_mut};
-use indexmap::IndexSet;
 use oxt_ctx::nodes::{make, private_name};
 use oxt_ctx::parts::{list_mut, put_field, take_node};
 use oxt_declares::calls::is_called;
@@ -32,6 +31,7 @@ use oxt_names::ids::{NodeIds, OutOfMemory};
 use oxt_names::name::Name;
 use oxt_tree::tree::{Node, Part};
 use std::alloc::Global;
+use std::collections::HashSet;
 use std::vec;
 
 /// Puts the elements that stand for them in the places of the decorated fields of the class which are only declared,
@@ -54,7 +54,7 @@ pub fn put_stand_ins(
 fn hide_each(
     alloc: Global,
     elements: &mut [Part],
-    stand_ins: &mut IndexSet<u64>,
+    stand_ins: &mut HashSet<u64>,
     ids: &mut NodeIds,
 ) -> Result<(), OutOfMemory> {
     for element in elements.iter_mut() {
@@ -67,7 +67,7 @@ fn hide_each(
 fn hide_part(
     alloc: Global,
     element: &mut Part,
-    stand_ins: &mut IndexSet<u64>,
+    stand_ins: &mut HashSet<u64>,
     ids: &mut NodeIds,
 ) -> Result<(), OutOfMemory> {
     match element {
@@ -123,7 +123,7 @@ fn push_taken(parts: &mut Vec<Part>, taken: Option<Node>) -> Result<(), OutOfMem
 }
 
 /// Puts the key back into the field, if it stands for one.
-pub fn show_key(field: &mut Node, stand_ins: &IndexSet<u64>) {
+pub fn show_key(field: &mut Node, stand_ins: &HashSet<u64>) {
     if stand_ins.contains(&field.id.0) {
         if let Some(key) = hidden_key(field) {
             put_field(field, Field::Key, Part::Node(key));
@@ -141,7 +141,7 @@ fn hidden_key(field: &mut Node) -> Option<Node> {
 }
 
 /// Drops the elements of the class that stand for fields.
-pub fn drop_stand_ins(class: &mut Node, stand_ins: &IndexSet<u64>) {
+pub fn drop_stand_ins(class: &mut Node, stand_ins: &HashSet<u64>) {
     if stand_ins.is_empty() {
         return;
     }
@@ -151,7 +151,7 @@ pub fn drop_stand_ins(class: &mut Node, stand_ins: &IndexSet<u64>) {
 }
 
 /// Whether the element is one.
-fn is_stand_in(element: &Part, stand_ins: &IndexSet<u64>) -> bool {
+fn is_stand_in(element: &Part, stand_ins: &HashSet<u64>) -> bool {
     match element {
         Part::Node(node) => stand_ins.contains(&node.id.0),
         _ => false,

@@ -11,7 +11,6 @@ ghost use Rattle.oxt_tree.specs.View.{docs_in, node_doc};
 use crate::names::named_symbol;
 use crate::needed::needed_symbols;
 use crate::values::{is_optimized, optimizes};
-use indexmap::IndexSet;
 use oxt_declares::dropped::{inside_dropped, is_dropped};
 use oxt_grammar::field::Field;
 use oxt_grammar::holds::Row;
@@ -25,6 +24,7 @@ use oxt_search::all::all_in;
 use oxt_search::search::{Inside, Search, Visit};
 use oxt_tree::tree::Node;
 use std::alloc::Global;
+use std::collections::HashSet;
 
 /// The blocks, in the order of the text, of the enums that are dropped: members of the enum are inlined, no block of it is
 /// exported or ambient, no declaration of another kind emits code under its name, each of its members is constant and
@@ -63,7 +63,7 @@ fn needed_set(
     kept: &NodeList,
     options: &TypeScriptOptions,
     legacy: bool,
-) -> Result<IndexSet<u64>, OutOfMemory>
+) -> Result<HashSet<u64>, OutOfMemory>
     ensures { IfOk result (λ set. (n : ℕ) → is_in set.keys n
         ≡ is_in (needed scoping.now (is_in kept.now) (node_doc program.now) (typescript_view options.now) legacy) n) }
 {
@@ -72,7 +72,7 @@ fn needed_set(
 }
 
 /// The numbers of the symbols.
-fn set_of(alloc: Global, symbols: &[SymbolId]) -> Result<IndexSet<u64>, OutOfMemory>
+fn set_of(alloc: Global, symbols: &[SymbolId]) -> Result<HashSet<u64>, OutOfMemory>
     ensures { IfOk result (λ set. (n : ℕ) → is_in set.keys n ≡ is_in (map number_of symbols.now) n) }
 {
     Ok(symbols.iter().map(|symbol| symbol.0).collect(alloc)?)
@@ -86,7 +86,7 @@ fn dropped_by(
     scoping: &Scoping,
     options: &TypeScriptOptions,
     legacy: bool,
-    needed: &IndexSet<u64>,
+    needed: &HashSet<u64>,
     named: &NamedSymbols,
 ) -> Result<Vec<NodeId>, OutOfMemory>
     ensures { IfOk result (λ nodes. numbers_in nodes.items ≡ dropped_by (both_need (is_in needed.now.keys) (is_named_in named.now))
@@ -108,7 +108,7 @@ struct Blocks<'a> {
     scoping: &'a Scoping,
     options: &'a TypeScriptOptions,
     legacy: bool,
-    needed: &'a IndexSet<u64>,
+    needed: &'a HashSet<u64>,
     named: &'a NamedSymbols,
 }
 

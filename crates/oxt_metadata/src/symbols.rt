@@ -6,7 +6,6 @@ ghost use Rattle.oxt_tree.specs.View.{doc_or_nil};
 
 use crate::annotations::Annotation;
 use bitflags::Flags;
-use indexmap::IndexSet;
 use oxt_names::flags::SymbolFlags;
 use oxt_names::ids::{NodeId, OutOfMemory, SymbolId};
 use oxt_options::metadata::MetadataType;
@@ -14,6 +13,7 @@ use oxt_scoping::entry::value_flags;
 use oxt_scoping::scoping::Scoping;
 use oxt_tree::tree::Part;
 use std::alloc::Global;
+use std::collections::HashSet;
 use std::marker::Model;
 
 /// The symbol that the name which is the node means.
@@ -63,7 +63,7 @@ fn is_value(flags: SymbolFlags) -> bool
 #[derive(Drop)]
 pub struct NamedSymbols {
     symbols: Vec<SymbolId>,
-    set: IndexSet<u64>,
+    set: HashSet<u64>,
 }
 
 impl Model for NamedSymbols {
@@ -84,7 +84,7 @@ impl NamedSymbols {
     {
         NamedSymbols {
             symbols: Vec::new(alloc),
-            set: IndexSet::new(alloc),
+            set: HashSet::new(alloc),
         }
     }
 
@@ -148,7 +148,7 @@ fn push_named(
 }
 
 /// The numbers of the symbols.
-fn set_of(alloc: Global, symbols: &[SymbolId]) -> Result<IndexSet<u64>, OutOfMemory>
+fn set_of(alloc: Global, symbols: &[SymbolId]) -> Result<HashSet<u64>, OutOfMemory>
     ensures { IfOk result (λ set. (i : ℕ) → is_in set.keys i ≡ is_in (numbers_in symbols.now) i) }
 {
     Ok(symbols.iter().map(|symbol| symbol.0).collect(alloc)?)

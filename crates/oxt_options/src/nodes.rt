@@ -3,16 +3,16 @@ ghost use Rattle.std.specs.Prelude.{◌≡◌, ◌++◌, ◌∷◌, ℕ, IfOk, [
 ghost use Rattle.oxt_options.specs.Facts.{is_in};
 ghost use Rattle.oxt_options.specs.Lists.{numbers_in};
 
-use indexmap::IndexSet;
 use oxt_names::ids::{NodeId, OutOfMemory};
 use std::alloc::Global;
+use std::collections::HashSet;
 use std::marker::Model;
 
 /// A list of nodes in which each is found at once.
 #[derive(Drop)]
 pub struct NodeList {
     nodes: Vec<NodeId>,
-    set: IndexSet<u64>,
+    set: HashSet<u64>,
 }
 
 impl Model for NodeList {
@@ -34,7 +34,7 @@ impl NodeList {
     {
         NodeList {
             nodes: Vec::new(alloc),
-            set: IndexSet::new(alloc),
+            set: HashSet::new(alloc),
         }
     }
 
@@ -81,7 +81,7 @@ impl NodeList {
 }
 
 /// The numbers of the nodes.
-pub(crate) fn set_of(alloc: Global, nodes: &[NodeId]) -> Result<IndexSet<u64>, OutOfMemory>
+pub(crate) fn set_of(alloc: Global, nodes: &[NodeId]) -> Result<HashSet<u64>, OutOfMemory>
     ensures { IfOk result (λ set. (n : ℕ) → is_in set.keys n ≡ is_in (numbers_in nodes.now) n) }
 {
     Ok(nodes.iter().map(|node| node.0).collect(alloc)?)

@@ -10,21 +10,22 @@ ghost use Rattle.oxt_options.specs.Metadata.{last_type, type_at};
 use crate::lists::PlanLists;
 use crate::metadata::MetadataType;
 use crate::nodes::set_of;
-use indexmap::{IndexMap, IndexSet};
+use indexmap::IndexMap;
 use oxt_names::constant::ConstantValue;
 use oxt_names::ids::{NodeId, OutOfMemory};
 use std::alloc::Global;
+use std::collections::HashSet;
 use std::marker::Model;
 use std::mem;
 
 /// What the check of a program found out about nodes of the source.
 #[derive(Drop)]
 pub struct Plan {
-    kept: IndexSet<u64>,
-    first: IndexSet<u64>,
-    dropped: IndexSet<u64>,
+    kept: HashSet<u64>,
+    first: HashSet<u64>,
+    dropped: HashSet<u64>,
     inlined: IndexMap<u64, ConstantValue>,
-    never_written: IndexSet<u64>,
+    never_written: HashSet<u64>,
     aliases: IndexMap<u64, u64>,
     metadata: IndexMap<u64, MetadataType>,
     written: IndexMap<u64, u64>,
@@ -45,11 +46,11 @@ impl Plan {
         ensures { result ≡ no_facts }
     {
         Plan {
-            kept: IndexSet::new(alloc),
-            first: IndexSet::new(alloc),
-            dropped: IndexSet::new(alloc),
+            kept: HashSet::new(alloc),
+            first: HashSet::new(alloc),
+            dropped: HashSet::new(alloc),
             inlined: IndexMap::new(alloc),
-            never_written: IndexSet::new(alloc),
+            never_written: HashSet::new(alloc),
             aliases: IndexMap::new(alloc),
             metadata: IndexMap::new(alloc),
             written: IndexMap::new(alloc),
@@ -243,7 +244,7 @@ fn sets_of(
     alloc: Global,
     ones: &[NodeId],
     others: &[NodeId],
-) -> Result<(IndexSet<u64>, IndexSet<u64>), OutOfMemory>
+) -> Result<(HashSet<u64>, HashSet<u64>), OutOfMemory>
     ensures ones { IfOk result (λ sets. (n : ℕ) → is_in sets.0.keys n ≡ is_in (numbers_in ones.now) n) }
     ensures others { IfOk result (λ sets. (n : ℕ) → is_in sets.1.keys n ≡ is_in (numbers_in others.now) n) }
 {

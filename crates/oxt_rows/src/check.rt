@@ -1,7 +1,7 @@
 //! Running a case and comparing what came with what is wanted.
 ghost use Rattle.std.specs.Prelude.{◌≡◌, ◌<◌, IfOk, IsNone};
 
-use oxt_lines::case::{Case, Wanted};
+use crate::case::{Case, Wanted};
 use oxt_transform::{MemorySink, MemorySource, run};
 use std::alloc::{AllocError, Global};
 

@@ -3,20 +3,22 @@
 //! answer. Standard input has the trees and texts on which these are made.
 #![tactic(auto)]
 
+mod case;
 mod check;
 mod faults;
+mod input;
 mod runs;
 mod walked;
 
 ghost use Rattle.std.specs.Prelude.{◌≤◌, IfOk, length};
 
+use crate::case::Case;
 use crate::check::check;
 use crate::faults::print_faults;
 use crate::runs::print_runs;
 use crate::walked::print_walked;
 use anyhow::{Context, Result, ensure};
 use oxt_io::{ReaderSource, Source};
-use oxt_lines::case::Case;
 use oxt_lines::lines::Lines;
 use oxt_lines::stopped::Stopped;
 use oxt_lines::table::Table;

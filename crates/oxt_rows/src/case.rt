@@ -11,7 +11,7 @@ ghost use Rattle.std.specs.Prelude.{◌<◌};
 
 use crate::input::input_bytes;
 use anyhow::{Context, Result, ensure};
-use oxt_names::name::Name;
+use oxt_transform::Name;
 use serde_json::Value;
 use std::alloc::{AllocError, Global};
 
