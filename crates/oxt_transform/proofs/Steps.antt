@@ -37,7 +37,7 @@ use Rattle.oxt_certificate.specs.Exports.{body}
 use Rattle.oxt_transform.specs.Faults.{refusal_in, IsReasonFor}
 use Rattle.oxt_transform.specs.Lowering.{IsTextOfOne, Lowers, Passes, ReturnsPlain, tells_of_wrapper}
 use Rattle.oxt_transform.specs.Outcomes.{AnswerCut, CutOff, IfRefused, IsAnswerUncertifiedOrMemory, IsRefusedMemoryOrWriteFault, LowersToLines, NothingStands, OnWriteFault, Reported, is_uncertified, limit, options_in}
-use Rattle.oxt_transform.specs.Plain.{ComesBack, as_javascript, is_left_alone, is_plain_source}
+use Rattle.oxt_rewrite.specs.Plain.{ComesBack, as_javascript, is_left_alone, is_plain_source}
 use Rattle.oxt_transform.specs.Refusals.{Accepts, Difference, Hinders, IsHindrance, IsFailure, Judges, Refusal, Refuses, captured_name, is_plain_output, json, misplaced_node, shape, uncertified, wide_member}
 use Rattle.oxt_certificate.specs.Settings.{SettingsData, differs, has_exports, has_language, is_decorated, is_script, wrong_setting}
 use Rattle.oxt_certificate.specs.Decorators.{has_decorator}

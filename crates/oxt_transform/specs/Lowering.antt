@@ -18,7 +18,7 @@ use Rattle.oxt_certificate.specs.Bound.{misbound}
 use Rattle.oxt_certificate.specs.Expected.{expected_of, fault_of, is_due, keeps, known_of_output, names_of, output_word, source_word}
 use Rattle.oxt_certificate.specs.Decorators.{has_decorator}
 use Rattle.oxt_certificate.specs.Exports.{HasExports}
-use Rattle.oxt_transform.specs.Plain.{as_javascript, is_plain_source, leaves_javascript}
+use Rattle.oxt_rewrite.specs.Plain.{as_javascript, is_plain_source, leaves_javascript}
 use Rattle.oxt_transform.specs.Refusals.{Judges}
 use Rattle.oxt_certificate.specs.Settings.{settings_by, wrong_setting}
 use Rattle.oxt_valid.specs.Plain.{is_plain}

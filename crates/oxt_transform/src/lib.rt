@@ -2,14 +2,10 @@
 #![tactic(auto)]
 
 pub mod fault;
-mod passes;
-mod plain_source;
 pub mod program;
 mod staying;
 pub mod transform;
-pub mod typescript;
 
-pub use crate::typescript::TypeScript;
 pub use fault::Fault;
 pub use oxt_certificate::Mismatch;
 pub use oxt_io::{
@@ -18,5 +14,6 @@ pub use oxt_io::{
 pub use oxt_names::ids::OutOfMemory;
 pub use oxt_names::name::Name;
 pub use oxt_options::{DecoratorOptions, Module, RewriteExtensionsMode, TypeScriptOptions};
+pub use oxt_rewrite::typescript::TypeScript;
 pub use program::{Outcome, run};
 pub use transform::{TransformOptions, TransformerReturn, transform_text};

@@ -13,13 +13,12 @@ ghost use Rattle.oxt_certificate.specs.Expected.{expected_beside, expected_view,
 ghost use Rattle.oxt_transform.specs.Faults.{refusal_in, IsReasonFor, text_in, told_in};
 ghost use Rattle.oxt_transform.specs.Lowering.{IsTextOfOne, Lowers, Passes, ReturnsPlain};
 ghost use Rattle.oxt_transform.specs.Outcomes.{answer_of};
-ghost use Rattle.oxt_transform.specs.Plain.{ComesBack};
+ghost use Rattle.oxt_rewrite.specs.Plain.{ComesBack};
 ghost use Rattle.oxt_transform.specs.Refusals.{Accepts, IsFailure, IsHindrance, Judges};
 ghost use Rattle.oxt_tree.specs.View.{node_doc};
 ghost use Rattle.oxt_valid.specs.Valid.{is_tree};
 
 use crate::fault::{Fault, fault_of_reading};
-use crate::passes::{Tables, rewrite};
 use crate::staying::staying_wrappers;
 use oxt_certificate::certificate::certify;
 use oxt_certificate::expected::Expected;
@@ -33,6 +32,7 @@ use oxt_names::ids::OutOfMemory;
 use oxt_names::lines::append_lines;
 pub use oxt_options::TransformOptions;
 use oxt_resolve::resolve::{Resolution, TreeNames, resolve_names};
+use oxt_rewrite::rewrite::{Tables, rewrite};
 use oxt_tree::tree::Program;
 use std::alloc::Global;
 

@@ -1,7 +1,7 @@
 //! What is done to a program between its check and its test.
 ghost use Rattle.std.specs.Prelude.{OnOk};
 ghost use Rattle.oxt_options.specs.Options.{transform_view};
-ghost use Rattle.oxt_transform.specs.Plain.{ComesBack};
+ghost use Rattle.oxt_rewrite.specs.Plain.{ComesBack};
 ghost use Rattle.oxt_tree.specs.View.{node_doc};
 
 use crate::plain_source::{is_left_alone, say_javascript};
@@ -17,9 +17,9 @@ use std::alloc::Global;
 
 /// What the passes know of a source.
 #[derive(Drop)]
-pub(crate) struct Tables {
-    pub(crate) scoping: Scoping,
-    pub(crate) plan: Plan,
+pub struct Tables {
+    pub scoping: Scoping,
+    pub plan: Plan,
 }
 
 /// Lowers the program: walks over it with the passes. Of a plain program that the options leave as it is, only the
@@ -28,7 +28,7 @@ pub(crate) struct Tables {
 /// # Errors
 ///
 /// `OutOfMemory` for want of memory or of numbers alone. The program may then only be dropped.
-pub(crate) fn rewrite(
+pub fn rewrite(
     alloc: Global,
     program: &mut Program,
     options: &TransformOptions,

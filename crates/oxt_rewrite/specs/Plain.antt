@@ -5,7 +5,7 @@ use Rattle.oxt_options.specs.Options.{TransformData}
 use Rattle.oxt_options.specs.declared.options.Module.{Module}
 use Rattle.oxt_options.specs.declared.options.Module.TheVariants.{CommonJs}
 use Rattle.oxt_grammar.specs.declared.kind.Kind.TheVariants as kind
-use Rattle.oxt_transform.specs.Places.{with_field}
+use Rattle.oxt_rewrite.specs.Places.{with_field}
 use Rattle.oxt_tree.specs.Doc.{Doc, text}
 use Rattle.oxt_tree.specs.Fields.{docs_list, elements, field_of, is_empty_list, is_kind}
 use Rattle.oxt_tree.specs.Syntax.{is_definition_file}

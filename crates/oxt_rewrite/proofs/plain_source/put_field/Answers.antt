@@ -1,7 +1,7 @@
 use Rattle.std.proofs.Common.{ap, arith, refl}
 use Rattle.oxt_grammar.specs.Keys.{key_of}
-use Rattle.oxt_transform.proofs.Changed.{field_beyond, field_changed, field_missing}
-use Rattle.oxt_transform.proofs.plain_source.put_field.Goals as goal
+use Rattle.oxt_rewrite.proofs.Changed.{field_beyond, field_changed, field_missing}
+use Rattle.oxt_rewrite.proofs.plain_source.put_field.Goals as goal
 use Rattle.oxt_tree.specs.Doc.{node}
 use Rattle.oxt_tree.specs.View.{part_doc}
 

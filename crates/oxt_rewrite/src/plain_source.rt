@@ -2,8 +2,8 @@
 ghost use Rattle.std.specs.Prelude.{◌≡◌};
 ghost use Rattle.std.specs.List.{list_any};
 ghost use Rattle.oxt_options.specs.Options.{transform_view};
-ghost use Rattle.oxt_transform.specs.Places.{with_field};
-ghost use Rattle.oxt_transform.specs.Plain.{as_javascript, has_empty_import, is_common_js, is_empty_import, is_left_alone, is_plain_source, leaves_javascript};
+ghost use Rattle.oxt_rewrite.specs.Places.{with_field};
+ghost use Rattle.oxt_rewrite.specs.Plain.{as_javascript, has_empty_import, is_common_js, is_empty_import, is_left_alone, is_plain_source, leaves_javascript};
 ghost use Rattle.oxt_tree.specs.Fields.{is_empty_list};
 ghost use Rattle.oxt_tree.specs.View.{doc_or_nil, node_doc, part_doc};
 ghost use Rattle.oxt_grammar.specs.Keys.{key_of};

@@ -4,7 +4,7 @@ use Rattle.std.proofs.Math.ListN.{set}
 use Rattle.std.specs.List.{position_from}
 use Rattle.std.specs.Str.{bytes_eq}
 use Rattle.oxt_grammar.specs.Keys.{key_of}
-use Rattle.oxt_transform.specs.Places.{changed_at, changed_in, changed_where}
+use Rattle.oxt_rewrite.specs.Places.{changed_at, changed_in, changed_where}
 use Rattle.oxt_grammar.specs.Field.{row_view}
 use Rattle.oxt_grammar.specs.Rows.{row_of}
 use Rattle.oxt_grammar.specs.declared.holds.Row.{Row}
