@@ -4,14 +4,14 @@ ghost use Rattle.oxt_stores.specs.Frame.{frames};
 
 use crate::context::{Calls, of_table, print_calls};
 use oxt_ctx::context::TraverseCtx;
+use oxt_ctx::hook::Hook;
+use oxt_ctx::pass::Pass;
 use oxt_grammar::kind::Kind;
 use oxt_lines::lines::Lines;
 use oxt_lines::nodes::{node, tree_of};
 use oxt_lines::stopped::Stopped;
 use oxt_lines::table::Table;
 use oxt_names::ids::{NodeId, OutOfMemory};
-use oxt_pass::hook::Hook;
-use oxt_pass::pass::Pass;
 use oxt_resolve::resolve::resolve;
 use oxt_scoping::scoping::Scoping;
 use oxt_traverse::both::Both;

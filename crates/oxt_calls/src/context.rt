@@ -1,7 +1,7 @@
 //! The context of a walk: the nodes around, what was found, names that are made and their nodes.
 ghost use Rattle.std.specs.Prelude.{◌≡◌, ◌<◌, ℕ, [], IfOk, None, OnOk, length};
 ghost use Rattle.oxt_stores.specs.Frame.{frames};
-ghost use Rattle.oxt_stores.specs.Insertion.{pending};
+ghost use Rattle.oxt_injector.specs.Pending.{pending};
 
 use crate::both::print_twice;
 use crate::keys::print_keys_in;

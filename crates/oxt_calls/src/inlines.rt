@@ -1,7 +1,7 @@
 //! What is inlined of enums, and which of their blocks go.
 
 use crate::plans::push_constant;
-use oxt_inline::dropped::dropped_blocks;
+use oxt_dropped::dropped::dropped_blocks;
 use oxt_inline::inlined::inlined_expressions;
 use oxt_lines::lines::Lines;
 use oxt_lines::stopped::{Stopped, all_well};

@@ -52,7 +52,7 @@ use crate::trees::print_trees;
 use crate::visits::print_visits;
 use crate::words::print_words;
 use anyhow::Result;
-use oxt_io::ReaderSource;
+use oxt_io::{ReaderSource, Source};
 use oxt_lines::lines::Lines;
 use oxt_lines::stopped::{Stopped, all_well};
 use oxt_lines::table::Table;
@@ -60,12 +60,18 @@ use std::alloc::Global;
 
 fn main(rt: HostRuntime) -> Result<()> {
     let mut source = ReaderSource::new(rt.stdin());
-    let table = Table::read_from(rt.alloc(), &mut source)?;
-    let mut lines = Lines::new(rt.alloc());
-    print_all(rt.alloc(), &table, &mut lines)?;
+    let lines = lines_of_calls(rt.alloc(), &mut source)?;
     let text = lines.as_str()?;
     print!(rt; "{text}")?;
     Ok(())
+}
+
+/// The lines of the calls, which are made on the trees and texts of the source.
+fn lines_of_calls<S: Source>(alloc: Global, source: &mut S) -> Result<Lines> {
+    let table = Table::read_from(alloc, source)?;
+    let mut lines = Lines::new(alloc);
+    print_all(alloc, &table, &mut lines)?;
+    Ok(lines)
 }
 
 /// All sections.

@@ -4,6 +4,7 @@ ghost use Rattle.std.specs.Prelude.{◌≡◌, ◌<◌, [], length};
 ghost use Rattle.oxt_stores.specs.Frame.{frames};
 
 use oxt_grammar::kind::Kind;
+use oxt_injector::injector::StatementInjectorStore;
 use oxt_lines::lines::Lines;
 use oxt_lines::nodes::{literal, named, node, statement, statements};
 use oxt_lines::source::{push_declaration, source_of};
@@ -12,7 +13,6 @@ use oxt_names::ids::{NodeId, NodeIds, SymbolId};
 use oxt_names::name::Name;
 use oxt_stores::bound::BoundIdentifier;
 use oxt_stores::declarations::VarDeclarationsStore;
-use oxt_stores::injector::StatementInjectorStore;
 use oxt_stores::sparse::SparseStack;
 use oxt_tree::tree::{Node, Part};
 use std::alloc::Global;

@@ -1,6 +1,7 @@
 //! What stands in the way of lowering enums.
 
 use crate::pieces::{Lines, Piece};
+use oxt_declares::sites::EnumSites;
 use oxt_enum_checks::misnamed::first_misnamed;
 use oxt_enum_checks::misused::first_misused;
 use oxt_enum_checks::shadowed::{ShadowedName, first_shadowed};
@@ -8,7 +9,6 @@ use oxt_enum_checks::wide::first_wide;
 use oxt_names::ids::{NodeId, OutOfMemory};
 use oxt_resolve::resolve::resolve;
 use oxt_scoping::scoping::Scoping;
-use oxt_sites::sites::EnumSites;
 use oxt_tree::tree::Node;
 use std::alloc::Global;
 

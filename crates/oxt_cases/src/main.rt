@@ -32,7 +32,6 @@ mod faults;
 mod fields;
 mod items;
 mod levels;
-mod lowered;
 mod names;
 mod namespaces;
 mod nodes;

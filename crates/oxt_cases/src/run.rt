@@ -71,8 +71,8 @@ fn passes(rt: &(impl Print + AllocGlobal), table: Table, row: &Value) -> Result<
 
 /// What is found of a case.
 fn found_of(alloc: Global, table: Table, case: &Case) -> Result<String> {
-    let mut trees = case.trees(alloc)?;
-    let lines = table.lines(alloc, &mut trees);
+    let trees = case.trees(alloc)?;
+    let lines = table.lines(alloc, &trees);
     drop(trees);
     lines
 }

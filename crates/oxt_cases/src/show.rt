@@ -31,8 +31,8 @@ fn show_source(rt: &HostRuntime) -> Result<()> {
 
 /// Prints the lines of another table.
 fn show_lines(rt: &HostRuntime, table: Table) -> Result<()> {
-    let mut trees = trees_on_input(rt, table)?;
-    let lines = table.lines(rt.alloc(), &mut trees);
+    let trees = trees_on_input(rt, table)?;
+    let lines = table.lines(rt.alloc(), &trees);
     drop(trees);
     let text = lines?;
     let text = text.as_str();

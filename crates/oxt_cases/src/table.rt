@@ -3,8 +3,8 @@
 use crate::pieces::Lines;
 use crate::trees::Trees;
 use crate::{
-    blocks, class_faults, constants, differences, enums, faults, fields, levels, lowered, names,
-    scopes, told, words,
+    blocks, class_faults, constants, differences, enums, faults, fields, levels, names, scopes,
+    told, words,
 };
 use anyhow::Result;
 use oxt_names::ids::OutOfMemory;
@@ -45,8 +45,6 @@ pub enum Table {
     Told,
     /// The first words at the level of the statements.
     Levels,
-    /// The program with its enums lowered.
-    Lowered,
     /// The word of the tree as that of a source.
     Word,
     /// The same, where nodes are told what they become.
@@ -60,7 +58,7 @@ pub enum Table {
 }
 
 /// The tables that have cases.
-pub const TABLES: [Table; 21] = [
+pub const TABLES: [Table; 20] = [
     Table::Names,
     Table::Owners,
     Table::Declarations,
@@ -76,7 +74,6 @@ pub const TABLES: [Table; 21] = [
     Table::ClassFaults,
     Table::Told,
     Table::Levels,
-    Table::Lowered,
     Table::Word,
     Table::ToldWord,
     Table::Owned,
@@ -103,7 +100,6 @@ impl Table {
             "class-faults" => Some(Table::ClassFaults),
             "told" => Some(Table::Told),
             "levels" => Some(Table::Levels),
-            "lowered" => Some(Table::Lowered),
             "word" => Some(Table::Word),
             "told-word" => Some(Table::ToldWord),
             "owned" => Some(Table::Owned),
@@ -131,7 +127,6 @@ impl Table {
             Table::ClassFaults => "class-faults.json",
             Table::Told => "told.json",
             Table::Levels => "levels.json",
-            Table::Lowered => "lowered.json",
             Table::Word => "word.json",
             Table::ToldWord => "told-word.json",
             Table::Owned => "owned.json",
@@ -150,14 +145,14 @@ impl Table {
     /// # Errors
     ///
     /// One that says that the output is not there; or want of memory.
-    pub fn lines(self, alloc: Global, trees: &mut Trees) -> Result<String> {
+    pub fn lines(self, alloc: Global, trees: &Trees) -> Result<String> {
         let mut lines = Lines::new(alloc);
         self.put_lines(alloc, trees, &mut lines)?;
         Ok(lines.into_string()?)
     }
 
     /// Puts the lines for these trees.
-    fn put_lines(self, alloc: Global, trees: &mut Trees, lines: &mut Lines) -> Result<()> {
+    fn put_lines(self, alloc: Global, trees: &Trees, lines: &mut Lines) -> Result<()> {
         match self {
             Table::Pair | Table::Differences => {
                 let output = trees.output()?;
@@ -182,17 +177,8 @@ impl Table {
     }
 
     /// Puts the lines for a tree alone.
-    fn put_tree(
-        self,
-        alloc: Global,
-        trees: &mut Trees,
-        lines: &mut Lines,
-    ) -> Result<(), OutOfMemory> {
+    fn put_tree(self, alloc: Global, trees: &Trees, lines: &mut Lines) -> Result<(), OutOfMemory> {
         match self {
-            Table::Lowered => {
-                let options = &trees.options.typescript;
-                lowered::put_lines(alloc, &mut trees.tree, options, lines)
-            }
             Table::Enums => enums::put_lines(alloc, &trees.tree, lines),
             Table::Told => told::put_lines(alloc, &trees.tree, &trees.options, lines),
             _ => self.put_read(alloc, &trees.tree.root, &trees.options, lines),

@@ -4,11 +4,11 @@ use crate::classes::{put_gains, put_moves};
 use crate::decorated::{put_accessor, put_applied, put_called, put_decorated, put_default};
 use crate::namespaces::{put_export, put_namespace, put_quasi, put_stored};
 use crate::pieces::{Lines, Piece};
+use oxt_dropped::dropped::dropped_blocks;
 use oxt_facts::told::{MemberValue, Told, ToldBlock, ToldMember, ToldNodes};
 use oxt_fields::aliases::alias_uses;
 use oxt_fields::rules::FieldRules;
 use oxt_fields::written::never_written_nodes;
-use oxt_inline::dropped::dropped_blocks;
 use oxt_inline::inlined::inlined_expressions;
 use oxt_metadata::Metadata;
 use oxt_metadata::symbols::NamedSymbols;
@@ -105,11 +105,7 @@ fn aliases_by(
 }
 
 /// The plan without the names that are read as aliases, where decorators are lowered so.
-///
-/// # Errors
-///
-/// Fails only where memory runs out.
-pub fn listed_plan(
+fn listed_plan(
     alloc: Global,
     program: &Node,
     scoping: &Scoping,

@@ -1,16 +1,16 @@
 -- The made names of a tree, one at a time.
 use denote.Ref.{Bor}
 use Rattle.std.proofs.Common.{arith, subst, Bool, true, false, ◌&&◌, if◌then◌else◌, Option, None, Some, ◌≡◌, ◌∙◌, sym, ap, ℕ, ◌+◌, ◌<◌, ◌≤◌, List, [], ◌∷◌, ◌++◌, length, drop, get_or, append_assoc, append-nil}
+use Rattle.std.proofs.lemmas.Cmp.{nat_list_eq_equiv}
 use Rattle.std.proofs.lemmas.List.{map-append}
-use Rattle.oxt_scopes.proofs.Tables.{look_insert}
+use Rattle.std.proofs.lemmas.Map.Text.{hash_map_updates_str}
 use Rattle.oxt_certificate.specs.Bound.{MadeAt, binding_of, bound_again, each_made, made_names, same_node, stray}
 use Rattle.oxt_certificate.specs.BoundViews.{IsTableOf, made_view, made_views, node_at, node_in}
 use Rattle.oxt_certificate.specs.declared.bound.Bindings.{Bindings}
 use Rattle.oxt_certificate.specs.declared.bound.MadeName.{MadeName as Made}
-use Rattle.std.specs.Cmp.Lexicographic.{bytes_decides}
+use Rattle.std.specs.HashMap.{HashMap, Updates}
 use Rattle.std.specs.Prelude.{is_some, option_map}
 use Rattle.std.specs.Str.{bytes_eq}
-use Rattle.indexmap.specs.IndexMap.{insert_entry}
 use Rattle.oxt_facts.specs.Facts.{Known}
 use Rattle.oxt_facts.specs.Owners.{Owners, owner_in}
 use Rattle.oxt_names.proofs.Lists.{drop_at, drop_end}
@@ -34,19 +34,14 @@ one_more old new m is = ap made_views is ∙ map-append made_view old (m ∷ [])
 
 -- ---- the table
 
--- two texts that are equal to one are equal
-bytes_same : (t a b : List ℕ) → bytes_eq t a ≡ true → bytes_eq t b ≡ true → bytes_eq a b ≡ true
-bytes_same t a b h g = (bytes_decides a b).1 (sym ((bytes_decides t a).0 h) ∙ (bytes_decides t b).0 g)
-
-bytes_swap : (t a b : List ℕ) → bytes_eq a b ≡ true → bytes_eq t b ≡ bytes_eq t a
-bytes_swap t a b h = ap (bytes_eq t) (sym ((bytes_decides a b).0 h))
-
 abbrev same_names : Bor (List ℕ) → Bor (List ℕ) → Bool
 same_names x y = bytes_eq x.now y.now
 
 -- what is found once a binding is put
-pub node_put : (t : List ℕ) (k : Bor (List ℕ)) (v : ℕ) (old new : List (Bor (List ℕ) × ℕ)) → new ≡ insert_entry same_names old k v → node_at t new ≡ (if bytes_eq t k.now then Some v else node_at t old)
-node_put t k v old new is = ap (node_at t) is ∙ look_insert same_names (λ x. bytes_eq t x.now) k v (λ x h. bytes_swap t k.now x.now h) (λ x h g. bytes_same t k.now x.now h g) old
+pub node_put : {S : Type 0} (t : List ℕ) (k : Bor (List ℕ)) (v : ℕ) (old new : HashMap (Bor (List ℕ)) ℕ S) → Updates same_names old new k (Some v) → node_at t new.entries ≡ (if bytes_eq t k.now then Some v else node_at t old.entries)
+node_put t k v old new put =
+    hash_map_updates_str k.now old new (Some v) put t
+    ∙ ap (λ b. if b then Some v else node_at t old.entries) (nat_list_eq_equiv.symm k.now t)
 
 abbrev names_of : Option (Bor (List ℕ)) → Option (List ℕ)
 names_of o = option_map (λ t. t.now) o

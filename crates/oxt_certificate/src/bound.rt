@@ -7,7 +7,6 @@ ghost use Rattle.oxt_facts.specs.Owners.{owner_in};
 ghost use Rattle.oxt_names.specs.Names.{name_bytes};
 ghost use Rattle.oxt_tree.specs.View.{docs_in, node_doc, part_doc};
 
-use indexmap::IndexMap;
 use oxt_facts::facts::Facts;
 use oxt_grammar::field::Field;
 use oxt_grammar::kind::Kind;
@@ -15,6 +14,7 @@ use oxt_names::ids::{NodeId, OutOfMemory};
 use oxt_names::name::Name;
 use oxt_tree::tree::{Node, Part};
 use std::alloc::Global;
+use std::collections::HashMap;
 
 /// A made name in a tree.
 #[derive(Clone, Copy)]
@@ -30,7 +30,7 @@ struct MadeName<'a> {
 /// The first binding of each made spelling, and the first spelling that two bindings have.
 #[derive(Drop)]
 struct Bindings<'a> {
-    nodes: IndexMap<&'a str, u64>,
+    nodes: HashMap<&'a str, u64>,
     again: Option<&'a str>,
 }
 
@@ -77,7 +77,7 @@ impl<'a> Bindings<'a> {
         ensures { IfOk result (λ bindings. IsTableOf (made_views names.now) bindings) }
     {
         let mut bindings = Bindings {
-            nodes: IndexMap::new(alloc),
+            nodes: HashMap::new(alloc),
             again: None,
         };
         let mut i = names.len();

@@ -6,7 +6,7 @@ use Rattle.oxt_enum_checks.specs.First.{first_blocks}
 use Rattle.oxt_fields.specs.Aliases.{alias_uses}
 use Rattle.oxt_fields.specs.Rules.{rules_in}
 use Rattle.oxt_fields.specs.Written.{never_written}
-use Rattle.oxt_inline.specs.DroppedEnums.{dropped}
+use Rattle.oxt_dropped.specs.DroppedEnums.{dropped}
 use Rattle.oxt_inline.specs.Inlined.{inlined}
 use Rattle.oxt_metadata.specs.Symbols.{types_in, written_in}
 use Rattle.oxt_metadata.specs.Whole.{Written}

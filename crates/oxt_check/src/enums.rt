@@ -10,6 +10,7 @@ ghost use Rattle.oxt_faults.specs.Level.{found_view};
 ghost use Rattle.oxt_tree.specs.View.{node_doc};
 
 use crate::survey::Survey;
+use oxt_declares::sites::EnumSites;
 use oxt_enum_checks::misnamed::first_misnamed;
 use oxt_enum_checks::misused::{first_misused, has_written_member};
 use oxt_enum_checks::shadowed::{ShadowedName, first_shadowed};
@@ -18,7 +19,6 @@ use oxt_faults::level::FoundWord;
 use oxt_grammar::kind::Kind;
 use oxt_names::ids::{NodeId, OutOfMemory};
 use oxt_scoping::scoping::Scoping;
-use oxt_sites::sites::EnumSites;
 use std::alloc::Global;
 
 /// What is wrong with the enums of a program: of each kind the one at the node of the least number.

@@ -41,10 +41,10 @@ use crate::fields::transform_class_fields;
 use crate::params::transform_class_constructor;
 use crate::properties::add_parameter_property_fields;
 use oxt_ctx::context::TraverseCtx;
+use oxt_ctx::hook::Hook;
+use oxt_ctx::pass::Pass;
 use oxt_names::ids::OutOfMemory;
 use oxt_options::TransformOptions;
-use oxt_pass::hook::Hook;
-use oxt_pass::pass::Pass;
 use oxt_tree::tree::{Node, Part};
 
 /// The pass that puts parameters which are properties on the object, moves the values of fields into the

@@ -1,7 +1,7 @@
 -- Names that would mean something else once the decorators of class declarations go behind these.
 use Rattle.std.specs.Prelude.{ℕ, List, fold, Bool, true, if◌then◌else◌, Option, None, option_map}
 use Rattle.oxt_declares.specs.Calls.{elements_of}
-use Rattle.oxt_decorated.specs.PrivateIn.{holds_private_in}
+use Rattle.oxt_fields.specs.PrivateIn.{holds_private_in}
 use Rattle.oxt_class_checks.specs.Classes.{classes_in}
 use Rattle.oxt_class_checks.specs.Privates.{private_capture}
 use Rattle.oxt_class_checks.specs.Stations.{station_in, station_inside}

@@ -5,8 +5,8 @@ use Rattle.oxt_class_checks.specs.Class.{is_class}
 use Rattle.oxt_class_checks.specs.Keys.{has_alias_key}
 use Rattle.oxt_class_checks.specs.Nodes.{some_node}
 use Rattle.oxt_class_checks.specs.Storages.{is_any_reserved, keeps_key, own_storage, with_name, with_privates}
-use Rattle.oxt_decorated.specs.Storage.{storage_text}
-use Rattle.oxt_decorated.specs.Text.{is_within_identifier}
+use Rattle.oxt_fields.specs.Storage.{storage_text}
+use Rattle.oxt_fields.specs.Text.{is_within_identifier}
 use Rattle.oxt_fields.specs.Classes.{elements_of}
 use Rattle.oxt_fields.specs.Rules.{Rules}
 use Rattle.oxt_grammar.specs.Places.{same_kind}

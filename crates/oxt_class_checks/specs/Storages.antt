@@ -1,7 +1,7 @@
 -- The private names of a class: those of its elements, and those of the storages of its accessors.
 use Rattle.std.specs.Prelude.{ℕ, eqb, List, Bool, false, not, ◌&&◌, ◌||◌, if◌then◌else◌, Option, None, Some, codes}
 use Rattle.std.specs.List.{ends_with, list_any, starts_with}
-use Rattle.oxt_decorated.specs.Storage.{storage_text}
+use Rattle.oxt_fields.specs.Storage.{storage_text}
 use Rattle.oxt_fields.specs.Fates.{needs_temporary}
 use Rattle.oxt_fields.specs.Rules.{Rules}
 use Rattle.oxt_grammar.specs.Places.{same_kind}

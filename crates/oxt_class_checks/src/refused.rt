@@ -6,8 +6,8 @@ ghost use Rattle.oxt_class_checks.specs.Refused.{is_accessor_refused, is_plain, 
 ghost use Rattle.oxt_class_checks.specs.Storages.{own_storage, with_name};
 ghost use Rattle.oxt_fields.specs.Rules.{rules_view};
 ghost use Rattle.oxt_options.specs.Lists.{numbers_in};
-ghost use Rattle.oxt_decorated.specs.Storage.{storage_text};
-ghost use Rattle.oxt_decorated.specs.Text.{is_letter, is_within_identifier};
+ghost use Rattle.oxt_fields.specs.Storage.{storage_text};
+ghost use Rattle.oxt_fields.specs.Text.{is_letter, is_within_identifier};
 ghost use Rattle.oxt_names.specs.Names.{name_bytes};
 ghost use Rattle.oxt_tree.specs.View.{docs_in, node_doc, part_doc};
 
@@ -15,9 +15,9 @@ use crate::class::is_class;
 use crate::keys::has_alias_key;
 use crate::storages::{add_privates, has_plain_storage, is_any_reserved, keeps_key};
 use oxt_declares::dropped::is_dropped;
-use oxt_decorated::storage::storage_text;
 use oxt_fields::class::elements_of;
 use oxt_fields::rules::FieldRules;
+use oxt_fields::storage::storage_text;
 use oxt_grammar::field::Field;
 use oxt_grammar::kind::Kind;
 use oxt_names::ids::{NodeId, OutOfMemory};

@@ -5,9 +5,9 @@ ghost use Rattle.oxt_fields.specs.Rules.{rules_view};
 ghost use Rattle.oxt_tree.specs.View.{doc_or_nil, docs_in, node_doc, part_doc};
 
 use oxt_declares::dropped::is_dropped;
-use oxt_decorated::storage::storage_text;
 use oxt_fields::fate::needs_temporary;
 use oxt_fields::rules::FieldRules;
+use oxt_fields::storage::storage_text;
 use oxt_grammar::field::Field;
 use oxt_grammar::kind::Kind;
 use oxt_names::ids::OutOfMemory;

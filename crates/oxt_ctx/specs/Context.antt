@@ -6,7 +6,7 @@ use Rattle.oxt_options.specs.declared.state.TransformState.{TransformState}
 use Rattle.oxt_options.specs.Facts.{Facts}
 use Rattle.oxt_scoping.specs.Scoped.{Each, Scoped}
 use Rattle.oxt_stores.specs.declared.declarations.VarDeclarationsStore.{VarDeclarationsStore}
-use Rattle.oxt_stores.specs.declared.injector.StatementInjectorStore.{StatementInjectorStore}
+use Rattle.oxt_injector.specs.declared.injector.StatementInjectorStore.{StatementInjectorStore}
 use Rattle.oxt_names.specs.declared.ids.ScopeId.{ScopeId}
 use Rattle.oxt_names.specs.declared.ids.NodeIds.{NodeIds}
 use Rattle.oxt_ctx.specs.declared.ancestor.AncestorRecord.{AncestorRecord}

@@ -5,8 +5,12 @@ pub mod Context
 pub mod Functions
 pub mod Helper
 pub mod Keys
+pub mod Level
 pub mod Made
 pub mod Meant
 pub mod Nodes
 pub mod Parts
+pub mod Ran
+pub mod Reached
 pub mod Text
+pub mod Visits

@@ -9,7 +9,7 @@ use Rattle.oxt_names.specs.declared.ids.ScopeId.{ScopeId}
 use Rattle.oxt_names.specs.declared.ids.SymbolId.{SymbolId}
 use Rattle.oxt_scoping.specs.Scoped.{Scoped, new_symbol, with_reference, with_symbol}
 use Rattle.oxt_stores.specs.Frame.{Frame, binding, declarator, with_var}
-use Rattle.oxt_names.specs.Made.{made_name}
+use Rattle.oxt_names.specs.Made.{added, made_name}
 use Rattle.oxt_ctx.specs.Context.{Context}
 
 -- a name that is used
@@ -55,7 +55,7 @@ made_in t c = made_name c.scoping.taken t
 
 -- with the name that is made from a text taken
 abbrev pub with_name : List ℕ → Context → Context
-with_name t c = with_taken (c.scoping.taken ++ made_in t c ∷ []) c
+with_name t c = with_taken (added (made_in t c) c.scoping.taken) c
 
 -- with that name bound in the scope
 abbrev pub with_uid : List ℕ → ScopeId → SymbolFlags → Context → Context

@@ -2,7 +2,7 @@
 ghost use Rattle.std.specs.Prelude.{◌≡◌, ◌<◌, ◌+◌, ◌++◌, ◌∷◌, [], ℕ, IfOk, IfSome, None, OnErr, OnOk, drop, false, length, reverse, slice_get};
 ghost use Rattle.std.specs.Option.{option_copied};
 ghost use Rattle.oxt_stores.specs.Frame.{binding, frames};
-ghost use Rattle.oxt_stores.specs.Insertion.{pending};
+ghost use Rattle.oxt_injector.specs.Pending.{pending};
 ghost use Rattle.oxt_names.specs.Names.{name_bytes};
 ghost use Rattle.oxt_tree.specs.View.{node_doc};
 ghost use Rattle.oxt_names.specs.Made.{is_among};
@@ -12,6 +12,7 @@ ghost use Rattle.oxt_ctx.specs.Made.{made_in, reference, with_binding, with_ids,
 use crate::ancestor::AncestorRecord;
 use crate::makers::{bind_anew, name_node, use_anew};
 use oxt_grammar::kind::Kind;
+use oxt_injector::injector::StatementInjectorStore;
 use oxt_names::diagnostic::OxcDiagnostic;
 use oxt_names::flags::{ReferenceFlags, SymbolFlags};
 use oxt_names::ids::{NodeIds, OutOfMemory, ScopeId, SymbolId};
@@ -21,7 +22,6 @@ use oxt_options::state::TransformState;
 use oxt_scoping::scoping::Scoping;
 use oxt_stores::bound::BoundIdentifier;
 use oxt_stores::declarations::VarDeclarationsStore;
-use oxt_stores::injector::StatementInjectorStore;
 use oxt_tree::tree::Node;
 use std::alloc::Global;
 use std::marker::Model;
@@ -52,7 +52,7 @@ impl Model for TraverseCtx {
     ghost use Rattle.std.specs.Coded.{codes};
     ghost use Rattle.std.specs.Prelude.{reverse};
     ghost use Rattle.oxt_stores.specs.contracts.declarations.VarDeclarationsStore as declarations;
-    ghost use Rattle.oxt_stores.specs.contracts.injector.StatementInjectorStore as injector;
+    ghost use Rattle.oxt_injector.specs.contracts.injector.StatementInjectorStore as injector;
     ghost use Rattle.oxt_names.specs.contracts.name.Name as name;
     ghost use Rattle.oxt_ctx.specs.Context.{Context, IsScoped};
 

@@ -2,8 +2,11 @@ pub mod Bare
 pub mod Calls
 pub mod Declarations
 pub mod Declares
+pub mod DocSet
 pub mod Dropped
 pub mod Imports
 pub mod Languages
+pub mod Quiet
 pub mod RoleOf
+pub mod Sites
 pub mod TypesAlone

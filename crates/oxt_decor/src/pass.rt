@@ -24,10 +24,10 @@ ghost use Rattle.oxt_stores.specs.Frame.{frames};
 
 use crate::legacy::LegacyDecorator;
 use oxt_ctx::context::TraverseCtx;
+use oxt_ctx::hook::Hook;
+use oxt_ctx::pass::Pass;
 use oxt_names::ids::OutOfMemory;
 use oxt_options::options::DecoratorOptions;
-use oxt_pass::hook::Hook;
-use oxt_pass::pass::Pass;
 use oxt_tree::tree::{Node, Part};
 use std::alloc::Global;
 

@@ -12,7 +12,7 @@ use oxt_tree::tree::Node;
 use oxt_visit::look::visit_js;
 use oxt_visit::visitor::VisitJs;
 
-/// A visitor that notes whether it met a test of a private name. The pass asks `oxt_decorated`, which leaves out
+/// A visitor that notes whether it met a test of a private name. The pass asks `oxt_fields`, which leaves out
 /// what is erased.
 #[derive(Clone, Copy)]
 pub struct PrivateInExpressionDetector {

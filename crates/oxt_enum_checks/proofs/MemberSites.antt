@@ -6,9 +6,9 @@ use Rattle.oxt_enum_checks.specs.Members.{Member, member_in, member_of, sought}
 use Rattle.oxt_grammar.specs.declared.kind.Kind.{Kind}
 use Rattle.oxt_names.specs.declared.ids.SymbolId.{SymbolId}
 use Rattle.oxt_scoping.specs.Scoped.{Scoped}
-use Rattle.oxt_sites.proofs.Outside.{no_enum, no_member, passing_over}
-use Rattle.oxt_sites.specs.Quiet.{IsQuietOutside}
-use Rattle.oxt_sites.specs.Sites.{is_site}
+use Rattle.oxt_declares.proofs.Outside.{no_enum, no_member, passing_over}
+use Rattle.oxt_declares.specs.Quiet.{IsQuietOutside}
+use Rattle.oxt_declares.specs.Sites.{is_site}
 use Rattle.oxt_tree.specs.Doc.{Docs}
 use Rattle.oxt_tree.specs.Fields.{named}
 

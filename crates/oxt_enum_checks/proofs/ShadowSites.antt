@@ -9,9 +9,9 @@ use Rattle.oxt_grammar.specs.Rows.{row_of}
 use Rattle.oxt_grammar.specs.declared.kind.Kind.{Kind}
 use Rattle.oxt_names.proofs.Lists.{drop_at, drop_end}
 use Rattle.oxt_scoping.specs.Scoped.{Scoped}
-use Rattle.oxt_sites.proofs.Outside.{no_enum, no_member, said_outside}
-use Rattle.oxt_sites.specs.Quiet.{SaysNothingOutside}
-use Rattle.oxt_sites.specs.Sites.{enum_sites, is_site, said_of_each}
+use Rattle.oxt_declares.proofs.Outside.{no_enum, no_member, said_outside}
+use Rattle.oxt_declares.specs.Quiet.{SaysNothingOutside}
+use Rattle.oxt_declares.specs.Sites.{enum_sites, is_site, said_of_each}
 use Rattle.oxt_tree.specs.Doc.{Doc, Docs}
 use Rattle.oxt_tree.specs.Fields.{named}
 use Rattle.oxt_tree.specs.View.{node_doc}

@@ -1,6 +1,6 @@
 -- The names of members that were met, as the program keeps them.
 use denote.Ref.{Bor}
-use Rattle.std.specs.Prelude.{ℕ, List, [], ◌∷◌, ◌++◌, map, Bool, ◌&&◌, ◌||◌, ◌==◌, if◌then◌else◌}
+use Rattle.std.specs.Prelude.{ℕ, List, map, Bool, ◌&&◌, ◌||◌, ◌==◌}
 use Rattle.std.specs.List.{list_any}
 use Rattle.std.specs.Str.{bytes_eq}
 use Rattle.oxt_enum_checks.specs.Members.{Member}
@@ -24,10 +24,6 @@ same_key a b = a.0 == b.0 && bytes_eq a.1 b.1
 -- it is one of them
 abbrev pub is_noted : List Key → Key → Bool
 is_noted ks k = list_any (same_key k) ks
-
--- the names with that one, where it is new
-abbrev pub noted : List Key → Key → List Key
-noted ks k = if is_noted ks k then ks else ks ++ k ∷ []
 
 -- the member has the name of its enum, or one of these
 abbrev pub is_repeated_in : List Key → Member → Bool

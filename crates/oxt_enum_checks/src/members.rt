@@ -6,15 +6,15 @@ ghost use Rattle.oxt_tree.specs.View.{node_doc};
 
 use crate::around::{EnumAround, enum_of, within};
 use crate::misused::{has_members, is_member};
+use oxt_declares::all::all_at_sites;
 use oxt_declares::dropped::{inside_dropped, is_dropped};
+use oxt_declares::sites::EnumSites;
 use oxt_grammar::holds::Row;
 use oxt_grammar::kind::Kind;
 use oxt_names::ids::{NodeId, OutOfMemory, SymbolId};
 use oxt_names::name::Name;
 use oxt_scoping::scoping::Scoping;
 use oxt_search::search::{Inside, Search, Visit};
-use oxt_sites::all::all_at_sites;
-use oxt_sites::sites::EnumSites;
 use oxt_tree::tree::Node;
 use std::alloc::Global;
 

@@ -6,9 +6,9 @@ ghost use Rattle.oxt_tree.specs.View.{node_doc};
 
 use crate::members::members_of;
 use crate::repeated::first_repeated;
+use oxt_declares::sites::EnumSites;
 use oxt_names::ids::{NodeId, OutOfMemory};
 use oxt_scoping::scoping::Scoping;
-use oxt_sites::sites::EnumSites;
 use std::alloc::Global;
 
 /// The least number of a node, outside what is erased, that is a member with the name of its enum or of a member

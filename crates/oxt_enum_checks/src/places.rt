@@ -5,7 +5,6 @@ ghost use Rattle.oxt_enum_checks.specs.Places.{by_number, name_at, names_of, now
 ghost use Rattle.oxt_enum_checks.specs.declared.places.PlacedName.{PlacedName};
 ghost use Rattle.oxt_tree.specs.View.{node_doc};
 
-use indexmap::IndexMap;
 use oxt_grammar::holds::Row;
 use oxt_grammar::kind::Kind;
 use oxt_names::ids::{NodeId, OutOfMemory};
@@ -13,6 +12,7 @@ use oxt_search::all::all_in;
 use oxt_search::search::{Inside, Search, Visit};
 use oxt_tree::tree::Node;
 use std::alloc::Global;
+use std::collections::HashMap;
 
 /// The declaration of a name.
 #[derive(Clone, Copy)]
@@ -59,7 +59,7 @@ pub enum Reach {
 /// The declarations of the names of a tree. Of two names of one number the last counts.
 #[derive(Drop)]
 pub struct Places {
-    table: IndexMap<u64, Place>,
+    table: HashMap<u64, Place>,
 }
 
 impl Places {
@@ -78,7 +78,7 @@ impl Places {
         ensures { (n : ℕ) → places_in result n ≡ None }
     {
         Places {
-            table: IndexMap::new(alloc),
+            table: HashMap::new(alloc),
         }
     }
 
@@ -91,7 +91,7 @@ impl Places {
 }
 
 /// The table of these names.
-fn table_of(alloc: Global, names: Vec<PlacedName>) -> Result<IndexMap<u64, Place>, OutOfMemory>
+fn table_of(alloc: Global, names: Vec<PlacedName>) -> Result<HashMap<u64, Place>, OutOfMemory>
     ensures { IfOk result (λ table. (n : ℕ) → lookup (nat_eq n) table.entries ≡ update_all nat_eq (λ _. None) (by_number names.items) n) }
 {
     Ok(

@@ -1,23 +1,17 @@
 -- Tables that are filled from the last to the first.
-use Rattle.std.proofs.Common.{◌≡◌, ◌∙◌, refl, sym, ap, ℕ, ◌+◌, ◌<◌, ◌≤◌, List, [], ◌∷◌, length, drop, get_or, arith, Bool, true, false, cond, Option, Some, None}
+use Rattle.std.proofs.Common.{◌≡◌, ◌∙◌, refl, sym, ap, ℕ, ◌+◌, ◌<◌, ◌≤◌, List, [], length, drop, get_or, arith, Bool, true, false, cond, Option, Some}
 use Rattle.std.specs.Option.{option_and_then}
 use Rattle.std.specs.Prelude.{◌==◌, find, option_map}
-use Rattle.indexmap.specs.IndexMap.{insert_entry}
-use Rattle.oxt_enums.proofs.Firsts.{number_same, number_swap, same_numbers}
 use Rattle.oxt_enums.specs.Blocks.{Block, block_view, block_views}
 use Rattle.oxt_enums.specs.Constants.{block_in, owner_in}
 use Rattle.oxt_enums.specs.Tables.{at_number}
 use Rattle.oxt_enums.specs.declared.blocks.EnumBlock.{EnumBlock}
-use Rattle.oxt_scopes.proofs.Tables.{look_insert}
 use Rattle.oxt_scopes.specs.OwnedViews.{owned_view, owned_views}
 use Rattle.oxt_scopes.specs.Owners.{Owned}
 use Rattle.oxt_scopes.specs.Stack.{number_at}
 use Rattle.oxt_scopes.specs.declared.owners.OwnedName.{OwnedName}
 use Rattle.oxt_names.proofs.Lists.{drop_at, drop_end}
 use Rattle.oxt_names.specs.declared.ids.NodeId.{NodeId}
-
-pub at_put : {V : Type 0} (q k : ℕ) (v : V) (es new : List (ℕ × V)) → new ≡ insert_entry same_numbers es k v → at_number q new ≡ cond (q == k) (Some v) (at_number q es)
-at_put q k v es new is = ap (at_number q) is ∙ look_insert same_numbers (λ x. q == x) k v (λ x h. number_swap q k x h) (λ x h g. number_same q k x h g) es
 
 abbrev pub OwnerEntry : Type 0
 OwnerEntry = ℕ × Option NodeId

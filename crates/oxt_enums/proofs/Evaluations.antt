@@ -1,10 +1,9 @@
 -- What the tables tell of a member, and what is known of it.
-use Rattle.std.proofs.Common.{◌≡◌, ◌∙◌, refl, sym, ap, subst, ℕ, ◌+◌, ◌<◌, ◌≤◌, List, [], ◌∷◌, ◌++◌, map, fold, take, length, get_or, Bool, ◌&&◌, Option, Some, None, arith}
+use Rattle.std.proofs.Common.{◌≡◌, ◌∙◌, refl, sym, ap, subst, ℕ, ◌+◌, ◌<◌, ◌≤◌, List, [], ◌∷◌, ◌++◌, take, length, get_or, Bool, ◌&&◌, Option, Some, None, arith}
 use Rattle.std.proofs.lemmas.List.{map-append, take_all, take_more}
 use Rattle.std.proofs.lemmas.List.Sums.{fold-append}
 use Rattle.std.specs.Option.{option_and_then}
 use Rattle.std.specs.Prelude.{option_map}
-use Rattle.oxt_constant.specs.Evaluated.{Env}
 use Rattle.oxt_constant.specs.Following.{before_view, is_wide, member, member_constant}
 use Rattle.oxt_constant.specs.Metered.{most_text}
 use Rattle.oxt_constant.specs.declared.member.Before.{Before}

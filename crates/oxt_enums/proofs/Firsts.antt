@@ -1,57 +1,64 @@
 -- Tables in which what is put first at a key stays.
-use denote.Ref.{Bor}
 use Rattle.std.proofs.Common.{◌≡◌, ◌∙◌, refl, sym, ap, ℕ, List, [], ◌∷◌, Bool, true, false, ◌&&◌, cond, Option, Some, None, true≢false}
 use Rattle.std.proofs.lemmas.Bool.{eqb-true, eq-eqb}
 use Rattle.std.specs.Cmp.Lexicographic.{bytes_decides}
-use Rattle.std.specs.Map.{lookup}
+use Rattle.std.specs.Map.{IsKeyTest, KeepsOthers, lookup}
 use Rattle.std.specs.Option.{option_or}
 use Rattle.std.specs.Prelude.{◌==◌, if◌then◌else◌, is_some, option_map}
 use Rattle.std.specs.Str.{bytes_eq}
-use Rattle.indexmap.specs.IndexMap.{insert_entry}
 use Rattle.oxt_enums.specs.Tables.{Name, Path, at_name, at_number, at_path}
-use Rattle.oxt_scopes.proofs.Tables.{look_insert}
 
-module _ {K V W : Type 0} (eq : K → K → Bool) (test : K → Bool) (k : K) (v : V) (f : V → W) where
-  -- two keys that pass the test are equal, and what is equal to the key passes it as the key does
-  abbrev pub Same : Type 0
-  Same = (x : K) → eq k x ≡ true → test x ≡ test k
+-- the clause on the entries of a map in which a key came to have a value
+abbrev pub Puts : {K V : Type 0} → (K → K → Bool) → K → V → List (K × V) → List (K × V) → Type 0
+Puts {K} eq k v es new = ((q : K) → lookup (eq q) new ≡ cond (eq k q) (Some v) (lookup (eq q) es)) × (lookup (eq k) new ≡ Some v) × ((q : K) → eq k q ≡ false → lookup (eq q) new ≡ lookup (eq q) es) × KeepsOthers eq (eq k) es new
 
-  abbrev pub Apart : Type 0
-  Apart = (x : K) → test k ≡ true → test x ≡ true → eq k x ≡ true
+agree : (b c : Bool) → (c ≡ true → b ≡ true) → (b ≡ true → c ≡ true) → b ≡ c
+agree true true h g = refl
+agree true false h g = sym (g refl)
+agree false true h g = h refl
+agree false false h g = refl
 
-  agree : (b c : Bool) → (c ≡ true → b ≡ true) → (b ≡ true → c ≡ true) → b ≡ c
-  agree true true h g = refl
-  agree true false h g = sym (g refl)
-  agree false true h g = h refl
-  agree false false h g = refl
+-- What is equal to a key passes the test as the key does, and two keys that pass it are equal.
+module _ {K : Type 0} (eq : K → K → Bool) (test : K → Bool) (same : (k x : K) → eq k x ≡ true → test x ≡ test k) (apart : (k x : K) → test k ≡ true → test x ≡ true → eq k x ≡ true) where
+  one_key : IsKeyTest eq test
+  one_key x y h = agree (test y) (eq x y) (λ g. same x y g ∙ h) (λ g. apart x y h g)
 
-  found_same : Same → Apart → test k ≡ true → (es : List (K × V)) → lookup test es ≡ lookup (eq k) es
-  found_same same apart h [] = refl
-  found_same same apart h (e ∷ es) =
-      ap (λ b. cond b (Some e.1) (lookup test es)) (agree (test e.0) (eq k e.0) (λ g. same e.0 g ∙ h) (λ g. apart e.0 h g))
-      ∙ ap (cond (eq k e.0) (Some e.1)) (found_same same apart h es)
+  module _ {V : Type 0} (k : K) where
+    found_same : test k ≡ true → (es : List (K × V)) → lookup test es ≡ lookup (eq k) es
+    found_same h [] = refl
+    found_same h (e ∷ es) = ap (λ b. cond b (Some e.1) (lookup test es)) (one_key k e.0 h) ∙ ap (cond (eq k e.0) (Some e.1)) (found_same h es)
 
-  stays : (b : Bool) (o : Option V) → (b ≡ true → is_some o ≡ true) → option_map f o ≡ option_or (option_map f o) (if b then Some (f v) else None)
-  stays true (Some w) h = refl
-  stays true None h = absurd (true≢false (sym (h refl)))
-  stays false (Some w) h = refl
-  stays false None h = refl
+    others : (es new : List (K × V)) → KeepsOthers eq (eq k) es new → test k ≡ false → lookup test new ≡ lookup test es
+    unfolding KeepsOthers
+    others es new keeps h = keeps test one_key (λ x g. same k x g ∙ h)
 
-  comes : (b : Bool) (o : Option V) → (b ≡ true → is_some o ≡ false) → option_map f (cond b (Some v) o) ≡ option_or (option_map f o) (if b then Some (f v) else None)
-  comes true (Some w) h = absurd (true≢false (h refl))
-  comes true None h = refl
-  comes false (Some w) h = refl
-  comes false None h = refl
+    -- What is found once an entry is put: its value, for a key that it has.
+    look_put : (v : V) (es new : List (K × V)) → Puts eq k v es new → lookup test new ≡ cond (test k) (Some v) (lookup test es)
+    look_put v es new puts = by (test k) refl
+      where
+        by : (b : Bool) → test k ≡ b → lookup test new ≡ cond b (Some v) (lookup test es)
+        by true h = found_same h new ∙ puts.1
+        by false h = others es new puts.3 h
 
-  -- Where the key is there, the table is as it is.
-  pub kept : Same → Apart → (es : List (K × V)) → is_some (lookup (eq k) es) ≡ true → option_map f (lookup test es) ≡ option_or (option_map f (lookup test es)) (if test k then Some (f v) else None)
-  kept same apart es there = stays (test k) (lookup test es) (λ h. ap is_some (found_same same apart h es) ∙ there)
+    stays : (v : V) (b : Bool) (o : Option V) → (b ≡ true → is_some o ≡ true) → o ≡ option_or o (if b then Some v else None)
+    stays v true (Some w) h = refl
+    stays v true None h = absurd (true≢false (sym (h refl)))
+    stays v false (Some w) h = refl
+    stays v false None h = refl
 
-  -- Where it is not, the value comes to it.
-  pub put : Same → Apart → (es new : List (K × V)) → is_some (lookup (eq k) es) ≡ false → new ≡ insert_entry eq es k v → option_map f (lookup test new) ≡ option_or (option_map f (lookup test es)) (if test k then Some (f v) else None)
-  put same apart es new absent is =
-      ap (λ xs. option_map f (lookup test xs)) is ∙ ap (option_map f) (look_insert eq test k v same apart es)
-      ∙ comes (test k) (lookup test es) (λ h. ap is_some (found_same same apart h es) ∙ absent)
+    comes : (v : V) (b : Bool) (o : Option V) → (b ≡ true → is_some o ≡ false) → cond b (Some v) o ≡ option_or o (if b then Some v else None)
+    comes v true (Some w) h = absurd (true≢false (h refl))
+    comes v true None h = refl
+    comes v false (Some w) h = refl
+    comes v false None h = refl
+
+    -- Where the key is there, the table is as it is.
+    kept : (v : V) (es : List (K × V)) → is_some (lookup (eq k) es) ≡ true → lookup test es ≡ option_or (lookup test es) (if test k then Some v else None)
+    kept v es there = stays v (test k) (lookup test es) (λ h. ap is_some (found_same h es) ∙ there)
+
+    -- Where it is not, the value comes to it.
+    put : (v : V) (es new : List (K × V)) → is_some (lookup (eq k) es) ≡ false → Puts eq k v es new → lookup test new ≡ option_or (lookup test es) (if test k then Some v else None)
+    put v es new absent puts = look_put v es new puts ∙ comes v (test k) (lookup test es) (λ h. ap is_some (found_same h es) ∙ absent)
 
 and_both : (b c : Bool) → (b && c) ≡ true → (b ≡ true) × (c ≡ true)
 and_both true c h = (refl, h)
@@ -110,28 +117,54 @@ path_apart n e t k x h g =
     let q = and_both (n == x.0 && bytes_eq e x.1.now) (bytes_eq t x.2.now) g in
     both_and (same_names (front k) (front x)) (bytes_eq k.2.now x.2.now) (name_apart n e (front k) (front x) p.0 q.0) (bytes_same t k.2.now x.2.now p.1 q.1)
 
-module _ {V W : Type 0} (f : V → W) (v : V) where
-  pub number_kept : (k q : ℕ) (es : List (ℕ × V)) → is_some (lookup (same_numbers k) es) ≡ true → option_map f (at_number q es) ≡ option_or (option_map f (at_number q es)) (if q == k then Some (f v) else None)
-  number_kept k q es there = kept same_numbers (λ x. q == x) k v f (λ x h. number_swap q k x h) (λ x h g. number_same q k x h g) es there
+-- the tests of a number, of a number with a name, and of a number with two names
+abbrev is_number : ℕ → ℕ → Bool
+is_number q x = q == x
 
-  pub number_put : (k q : ℕ) (es new : List (ℕ × V)) → is_some (lookup (same_numbers k) es) ≡ false → new ≡ insert_entry same_numbers es k v → option_map f (at_number q new) ≡ option_or (option_map f (at_number q es)) (if q == k then Some (f v) else None)
-  number_put k q es new absent is = put same_numbers (λ x. q == x) k v f (λ x h. number_swap q k x h) (λ x h g. number_same q k x h g) es new absent is
+abbrev is_name : ℕ → List ℕ → Name → Bool
+is_name n t x = n == x.0 && bytes_eq t x.1.now
+
+abbrev is_path : ℕ → List ℕ → List ℕ → Path → Bool
+is_path n e t x = (n == x.0 && bytes_eq e x.1.now) && bytes_eq t x.2.now
+
+module _ {V : Type 0} (v : V) where
+  pub number_kept : (k q : ℕ) (es : List (ℕ × V)) → is_some (lookup (same_numbers k) es) ≡ true → at_number q es ≡ option_or (at_number q es) (if q == k then Some v else None)
+  number_kept k q es there = kept same_numbers (is_number q) (number_swap q) (number_same q) k v es there
+
+  pub number_put : (k q : ℕ) (es new : List (ℕ × V)) → is_some (lookup (same_numbers k) es) ≡ false → Puts same_numbers k v es new → at_number q new ≡ option_or (at_number q es) (if q == k then Some v else None)
+  number_put k q es new absent puts = put same_numbers (is_number q) (number_swap q) (number_same q) k v es new absent puts
+
+  pub name_stays : (k : Name) (n : ℕ) (t : List ℕ) (es : List (Name × V)) → is_some (lookup (same_names k) es) ≡ true → at_name n t es ≡ option_or (at_name n t es) (if n == k.0 && bytes_eq t k.1.now then Some v else None)
+  name_stays k n t es there = kept same_names (is_name n t) (name_same n t) (name_apart n t) k v es there
+
+  pub name_comes : (k : Name) (n : ℕ) (t : List ℕ) (es new : List (Name × V)) → is_some (lookup (same_names k) es) ≡ false → Puts same_names k v es new → at_name n t new ≡ option_or (at_name n t es) (if n == k.0 && bytes_eq t k.1.now then Some v else None)
+  name_comes k n t es new absent puts = put same_names (is_name n t) (name_same n t) (name_apart n t) k v es new absent puts
+
+  pub path_kept : (k : Path) (n : ℕ) (e t : List ℕ) (es : List (Path × V)) → is_some (lookup (same_paths k) es) ≡ true → at_path n e t es ≡ option_or (at_path n e t es) (if (n == k.0 && bytes_eq e k.1.now) && bytes_eq t k.2.now then Some v else None)
+  path_kept k n e t es there = kept same_paths (is_path n e t) (path_same n e t) (path_apart n e t) k v es there
+
+  pub path_put : (k : Path) (n : ℕ) (e t : List ℕ) (es new : List (Path × V)) → is_some (lookup (same_paths k) es) ≡ false → Puts same_paths k v es new → at_path n e t new ≡ option_or (at_path n e t es) (if (n == k.0 && bytes_eq e k.1.now) && bytes_eq t k.2.now then Some v else None)
+  path_put k n e t es new absent puts = put same_paths (is_path n e t) (path_same n e t) (path_apart n e t) k v es new absent puts
+
+-- the same of what is read of the values
+module _ {V W : Type 0} (f : V → W) (v : V) where
+  read_or : (o : Option V) (b : Bool) → option_map f (option_or o (if b then Some v else None)) ≡ option_or (option_map f o) (if b then Some (f v) else None)
+  read_or (Some w) b = refl
+  read_or None true = refl
+  read_or None false = refl
 
   pub name_kept : (k : Name) (n : ℕ) (t : List ℕ) (es : List (Name × V)) → is_some (lookup (same_names k) es) ≡ true → option_map f (at_name n t es) ≡ option_or (option_map f (at_name n t es)) (if n == k.0 && bytes_eq t k.1.now then Some (f v) else None)
-  name_kept k n t es there = kept same_names (λ x. n == x.0 && bytes_eq t x.1.now) k v f (name_same n t k) (name_apart n t k) es there
+  name_kept k n t es there = ap (option_map f) (name_stays v k n t es there) ∙ read_or (at_name n t es) (is_name n t k)
 
-  pub name_put : (k : Name) (n : ℕ) (t : List ℕ) (es new : List (Name × V)) → is_some (lookup (same_names k) es) ≡ false → new ≡ insert_entry same_names es k v → option_map f (at_name n t new) ≡ option_or (option_map f (at_name n t es)) (if n == k.0 && bytes_eq t k.1.now then Some (f v) else None)
-  name_put k n t es new absent is = put same_names (λ x. n == x.0 && bytes_eq t x.1.now) k v f (name_same n t k) (name_apart n t k) es new absent is
-
-  pub path_kept : (k : Path) (n : ℕ) (e t : List ℕ) (es : List (Path × V)) → is_some (lookup (same_paths k) es) ≡ true → option_map f (at_path n e t es) ≡ option_or (option_map f (at_path n e t es)) (if (n == k.0 && bytes_eq e k.1.now) && bytes_eq t k.2.now then Some (f v) else None)
-  path_kept k n e t es there = kept same_paths (λ x. (n == x.0 && bytes_eq e x.1.now) && bytes_eq t x.2.now) k v f (path_same n e t k) (path_apart n e t k) es there
-
-  pub path_put : (k : Path) (n : ℕ) (e t : List ℕ) (es new : List (Path × V)) → is_some (lookup (same_paths k) es) ≡ false → new ≡ insert_entry same_paths es k v → option_map f (at_path n e t new) ≡ option_or (option_map f (at_path n e t es)) (if (n == k.0 && bytes_eq e k.1.now) && bytes_eq t k.2.now then Some (f v) else None)
-  path_put k n e t es new absent is = put same_paths (λ x. (n == x.0 && bytes_eq e x.1.now) && bytes_eq t x.2.now) k v f (path_same n e t k) (path_apart n e t k) es new absent is
+  pub name_put : (k : Name) (n : ℕ) (t : List ℕ) (es new : List (Name × V)) → is_some (lookup (same_names k) es) ≡ false → Puts same_names k v es new → option_map f (at_name n t new) ≡ option_or (option_map f (at_name n t es)) (if n == k.0 && bytes_eq t k.1.now then Some (f v) else None)
+  name_put k n t es new absent puts = ap (option_map f) (name_comes v k n t es new absent puts) ∙ read_or (at_name n t es) (is_name n t k)
 
 -- what is found once a value is put
-pub name_look : {V : Type 0} (k : Name) (v : V) (n : ℕ) (t : List ℕ) (es new : List (Name × V)) → new ≡ insert_entry same_names es k v → at_name n t new ≡ cond (n == k.0 && bytes_eq t k.1.now) (Some v) (at_name n t es)
-name_look k v n t es new is = ap (at_name n t) is ∙ look_insert same_names (λ x. n == x.0 && bytes_eq t x.1.now) k v (name_same n t k) (name_apart n t k) es
+pub number_look : {V : Type 0} (k : ℕ) (v : V) (q : ℕ) (es new : List (ℕ × V)) → Puts same_numbers k v es new → at_number q new ≡ cond (q == k) (Some v) (at_number q es)
+number_look k v q es new puts = look_put same_numbers (is_number q) (number_swap q) (number_same q) k v es new puts
+
+pub name_look : {V : Type 0} (k : Name) (v : V) (n : ℕ) (t : List ℕ) (es new : List (Name × V)) → Puts same_names k v es new → at_name n t new ≡ cond (n == k.0 && bytes_eq t k.1.now) (Some v) (at_name n t es)
+name_look k v n t es new puts = look_put same_names (is_name n t) (name_same n t) (name_apart n t) k v es new puts
 
 pub name_found : {V : Type 0} (k : Name) (v : V) (n : ℕ) (t : List ℕ) (es : List (Name × V)) → (n == k.0 && bytes_eq t k.1.now) ≡ true → at_name n t es ≡ lookup (same_names k) es
-name_found k v n t es h = found_same same_names (λ x. n == x.0 && bytes_eq t x.1.now) k v (λ w. w) (name_same n t k) (name_apart n t k) h es
+name_found k v n t es h = found_same same_names (is_name n t) (name_same n t) (name_apart n t) k h es

@@ -1,13 +1,11 @@
 -- Enums, a block at a time.
-use denote.Ref.{Bor}
-use Rattle.std.proofs.Common.{◌≡◌, ◌∙◌, refl, sym, ap, subst, ℕ, zero, suc, ◌+◌, ◌<◌, ◌≤◌, List, [], ◌∷◌, ◌++◌, map, take, length, get_or, append-nil, Bool, true, false, ◌&&◌, cond, Option, Some, None}
+use Rattle.std.proofs.Common.{◌≡◌, ◌∙◌, refl, sym, ap, subst, ℕ, zero, suc, ◌+◌, ◌<◌, ◌≤◌, List, [], ◌∷◌, ◌++◌, map, take, length, get_or, append-nil, Bool, true, false, ◌&&◌, cond, Option, Some}
 use Rattle.std.proofs.lemmas.List.{map-append, take_all, take_more}
 use Rattle.std.proofs.lemmas.List.Elements.{filter-append}
 use Rattle.std.specs.Map.{lookup}
 use Rattle.std.specs.Prelude.{◌==◌, if◌then◌else◌, filter, option_map}
 use Rattle.std.specs.Str.{bytes_eq}
-use Rattle.indexmap.specs.IndexMap.{insert_entry}
-use Rattle.oxt_enums.proofs.Firsts.{name_found, name_look, same_names}
+use Rattle.oxt_enums.proofs.Firsts.{Puts as Comes, name_found, name_look, same_names}
 use Rattle.oxt_enums.specs.Blocks.{Block, block_view, block_views}
 use Rattle.oxt_enums.specs.Groups.{Entries, Enum, Puts, body_of, enum_in, enum_of, enum_view, extended, is_block_of, named_at, number_of}
 use Rattle.oxt_enums.specs.Tables.{Name, at_name}
@@ -38,7 +36,7 @@ two_puts : (c : Bool) (g e : Group) (old at_key : Option Group) (b : Block) → 
 two_puts true g e old at_key b h is = ap (λ x. Some x) (is ∙ ap (λ o. extended (option_map enum_view o) b) (sym (h refl)))
 two_puts false g e old at_key b h is = refl
 
-pub block_put : (k : Name) (g e : Group) (b : EnumBlock) (before : Option Group) (old mid new : Entries) → k ≡ (b.scope.0, b.name) → before ≡ lookup (same_names k) old → mid ≡ insert_entry same_names old k e → new ≡ insert_entry same_names mid k g
+pub block_put : (k : Name) (g e : Group) (b : EnumBlock) (before : Option Group) (old mid new : Entries) → k ≡ (b.scope.0, b.name) → before ≡ lookup (same_names k) old → Comes same_names k e old mid → Comes same_names k g mid new
     → enum_view g ≡ extended (option_map enum_view before) (block_view b) → Puts b old new
 block_put k g e b before old mid new key had first second is = record {
   put = λ n t. subst (λ (x : Name). named_at n t new ≡ (if n == x.0 && bytes_eq t x.1.now then Some (extended (named_at n t old) (block_view b)) else named_at n t old)) key

@@ -1,7 +1,7 @@
 -- The first member whose constant would be too large.
-use Rattle.std.proofs.Common.{◌≡◌, ◌∙◌, refl, sym, ap, ℕ, ◌+◌, ◌<◌, ◌≤◌, List, [], ◌∷◌, drop, length, get_or, Bool, true, false, Option, Some, None, cond}
+use Rattle.std.proofs.Common.{◌≡◌, ◌∙◌, sym, ap, ℕ, ◌+◌, ◌<◌, ◌≤◌, List, drop, length, get_or, true, false, Option, Some, None, cond}
 use Rattle.std.specs.Prelude.{find, option_map}
-use Rattle.oxt_enums.specs.Constants.{Told, told_view, told_views}
+use Rattle.oxt_enums.specs.Constants.{told_view, told_views}
 use Rattle.oxt_enums.specs.Enums.{is_too_large, place_of, span_view}
 use Rattle.oxt_enums.specs.declared.constants.MemberConstant.{MemberConstant}
 use Rattle.oxt_names.proofs.Lists.{drop_at, drop_end}

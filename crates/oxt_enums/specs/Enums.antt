@@ -1,5 +1,5 @@
 -- The enums of a tree with the constants of their members, as contracts see them.
-use Rattle.std.specs.Prelude.{ℕ, ◌≡◌, ◌≤◌, List, Bool, false, Option, None, Some, map, option_map}
+use Rattle.std.specs.Prelude.{ℕ, ◌≡◌, ◌≤◌, List, Bool, false, Option, None, Some, map}
 use Rattle.oxt_constant.specs.Metered.{most_text}
 use Rattle.oxt_enums.specs.Blocks.{Block}
 use Rattle.oxt_enums.specs.Constants.{Known, Told, first_value, flat, has_number, is_in_body, is_in_enum, told, told_views}

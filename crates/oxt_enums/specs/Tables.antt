@@ -1,6 +1,6 @@
 -- Tables of constants, as contracts see them.
 use denote.Ref.{Bor}
-use Rattle.std.specs.Prelude.{ℕ, List, ◌≡◌, ◌&&◌, ◌==◌, Option, None, Some, map, option_map}
+use Rattle.std.specs.Prelude.{ℕ, suc, List, [], ◌∷◌, ◌≡◌, Bool, ◌&&◌, ◌==◌, if◌then◌else◌, Option, None, Some, map, option_map, slice_get}
 use Rattle.std.specs.Map.{lookup}
 use Rattle.std.specs.Option.{option_and_then}
 use Rattle.std.specs.Str.{bytes_eq}
@@ -8,7 +8,6 @@ use Rattle.oxt_constant.specs.Evaluated.{Env}
 use Rattle.oxt_constant.specs.Following.{Preceding, nothing, member}
 use Rattle.oxt_enums.specs.Blocks.{Block, block_view}
 use Rattle.oxt_enums.specs.Constants.{Known, flat, first_value, has_number, is_in_body, is_in_enum, told, told_views}
-use Rattle.oxt_enums.specs.declared.blocks.EnumBlock.{EnumBlock}
 use Rattle.oxt_enums.specs.declared.constants.Evaluated.{Evaluated}
 use Rattle.oxt_enums.specs.declared.homes.Homes.{Homes}
 use Rattle.oxt_enums.specs.declared.owners.Owners.{Owners}
@@ -16,7 +15,6 @@ use Rattle.oxt_enums.specs.declared.tables.Tables.{Tables}
 use Rattle.oxt_scopes.specs.Stack.{number_at}
 use Rattle.oxt_names.specs.Constant.{Constant, constant_view}
 use Rattle.oxt_names.specs.declared.constant.ConstantValue.{ConstantValue}
-use Rattle.oxt_names.specs.declared.ids.NodeId.{NodeId}
 
 -- of what a table has for a constant
 abbrev pub value_view : Option ConstantValue → Option Constant
@@ -40,17 +38,33 @@ Path = ℕ × Bor (List ℕ) × Bor (List ℕ)
 abbrev pub at_path : {V : Type 0} → ℕ → List ℕ → List ℕ → List (Path × V) → Option V
 at_path n e t es = lookup (λ k. (n == k.0 && bytes_eq e k.1.now) && bytes_eq t k.2.now) es
 
+-- what stands at a place of the list of constants
+abbrev pub value_in : Tables → ℕ → Option (Option Constant)
+value_in t p = option_map value_view (slice_get t.values.items p)
+
 abbrev pub in_numbers : ℕ → Tables → Option (Option Constant)
-in_numbers i t = option_map value_view (at_number i t.numbers.entries)
+in_numbers i t = option_and_then (value_in t) (at_number i t.numbers.entries)
 
 abbrev pub in_bodies : ℕ → List ℕ → Tables → Option (Option Constant)
-in_bodies n x t = option_map value_view (at_name n x t.bodies.entries)
+in_bodies n x t = option_and_then (value_in t) (at_name n x t.bodies.entries)
 
 abbrev pub in_enums : ℕ → List ℕ → List ℕ → Tables → Option (Option Constant)
-in_enums n e x t = option_map value_view (at_path n e x t.enums.entries)
+in_enums n e x t = option_and_then (value_in t) (at_path n e x t.enums.entries)
+
+abbrev pub constant_of : Known → Option Constant
+constant_of k = k.value
+
+-- the place of the first of them that passes the test
+abbrev pub first_place : (Known → Bool) → List Known → Option ℕ
+first_place p [] = None
+first_place p (k ∷ ks) = if p k then Some 0 else option_map (λ i. suc i) (first_place p ks)
 
 -- The tables have the constants of these members.
 pub record Knows (t : Tables) (ks : List Known) : Type 0 where
+  pub values : map value_view t.values.items ≡ map constant_of ks
+  pub number_places : (i : ℕ) → at_number i t.numbers.entries ≡ first_place (has_number i) ks
+  pub body_places : (n : ℕ) (x : List ℕ) → at_name n x t.bodies.entries ≡ first_place (is_in_body n x) ks
+  pub enum_places : (n : ℕ) (e x : List ℕ) → at_path n e x t.enums.entries ≡ first_place (is_in_enum n e x) ks
   pub numbers : (i : ℕ) → in_numbers i t ≡ first_value (has_number i) ks
   pub bodies : (n : ℕ) (x : List ℕ) → in_bodies n x t ≡ first_value (is_in_body n x) ks
   pub enums : (n : ℕ) (e x : List ℕ) → in_enums n e x t ≡ first_value (is_in_enum n e x) ks

@@ -111,7 +111,7 @@ impl<'a> EnumConstants<'a> {
 
     /// The numbers of the bodies of the blocks of the enum of that name that the scope of that number
     /// declares, in the order of the text; none exactly where the scope declares no such enum.
-    pub fn blocks_of(&self, scope: NodeId, name: &str) -> Option<&[NodeId]>
+    pub fn blocks_of<'s>(&'s self, scope: NodeId, name: &'s str) -> Option<&'s [NodeId]>
         ensures { option_map (λ bodies. map number_of bodies.now) result
             ≡ option_map bodies_of (enum_named scope.0 name.now self.now) }
     {

@@ -1,13 +1,12 @@
 //! The enums of a tree, each with its blocks.
-ghost use Rattle.std.specs.Prelude.{◌≡◌, ◌++◌, ◌∷◌, [], IfOk, OnOk, ℕ, List, None, map, option_map, slice_get};
-ghost use Rattle.indexmap.specs.IndexMap.{values};
+ghost use Rattle.std.specs.Prelude.{◌≡◌, ◌++◌, ◌∷◌, [], IfOk, OnOk, ℕ, List, None, map, option_map};
 ghost use Rattle.oxt_enums.specs.Blocks.{block_view, block_views};
 ghost use Rattle.oxt_enums.specs.Groups.{Puts, enum_at, enum_in, enum_view, extended, number_of};
 
 use crate::blocks::EnumBlock;
-use indexmap::IndexMap;
 use oxt_names::ids::{NodeId, OutOfMemory};
 use std::alloc::Global;
+use std::collections::HashMap;
 
 /// An enum.
 #[derive(Drop)]
@@ -21,7 +20,7 @@ pub struct Group {
 /// The enums of a tree, by the scope that declares each and its name.
 #[derive(Drop)]
 pub struct Groups<'a> {
-    groups: IndexMap<(u64, &'a str), Group>,
+    groups: HashMap<(u64, &'a str), Group>,
 }
 
 impl<'a> Groups<'a> {
@@ -34,7 +33,7 @@ impl<'a> Groups<'a> {
     pub fn new(alloc: Global, blocks: &[EnumBlock<'a>]) -> Result<Groups<'a>, OutOfMemory>
         ensures { IfOk result (λ g. (n : ℕ) (t : List ℕ) → enum_at n t g ≡ enum_in (block_views blocks.now) n t) }
     {
-        let mut groups = IndexMap::new(alloc);
+        let mut groups = HashMap::new(alloc);
         for block in blocks {
             put_block(alloc, block, &mut groups)?;
         }
@@ -42,24 +41,10 @@ impl<'a> Groups<'a> {
     }
 
     /// The enum of that name that the scope declares, if there is one.
-    pub fn get(&self, scope: NodeId, name: &str) -> Option<&Group>
+    pub fn get<'s>(&'s self, scope: NodeId, name: &'s str) -> Option<&'s Group>
         ensures { option_map (λ group. enum_view group.now) result ≡ enum_at scope.0 name.now self.now }
     {
-        match self.groups.get_index_of(&(scope.0, name)) {
-            Some(place) => group_at(&self.groups, place),
-            None => None,
-        }
-    }
-}
-
-/// The enum at that place of the table.
-fn group_at<'t, 'a>(table: &'t IndexMap<(u64, &'a str), Group>, place: usize) -> Option<&'t Group>
-    ensures { option_map (λ group. enum_view group.now) result
-        ≡ option_map enum_view (slice_get (values table.now) place) }
-{
-    match table.get_index(place) {
-        Some((_, group)) => Some(group),
-        None => None,
+        self.groups.get(&(scope.0, name))
     }
 }
 
@@ -67,7 +52,7 @@ fn group_at<'t, 'a>(table: &'t IndexMap<(u64, &'a str), Group>, place: usize) ->
 fn put_block<'a>(
     alloc: Global,
     block: &EnumBlock<'a>,
-    groups: &mut IndexMap<(u64, &'a str), Group>,
+    groups: &mut HashMap<(u64, &'a str), Group>,
 ) -> Result<(), OutOfMemory>
     ensures { OnOk result (Puts block.now groups.old.entries groups.new.entries) }
 {

@@ -5,14 +5,14 @@ ghost use Rattle.oxt_enums.specs.Constants.{block_in};
 ghost use Rattle.oxt_enums.specs.Tables.{at_number, home_at};
 
 use crate::blocks::EnumBlock;
-use indexmap::IndexMap;
 use oxt_names::ids::{NodeId, OutOfMemory};
 use std::alloc::Global;
+use std::collections::HashMap;
 
 /// The blocks of enums, by the numbers of their bodies.
 #[derive(Drop)]
 pub struct Homes<'a> {
-    blocks: IndexMap<u64, EnumBlock<'a>>,
+    blocks: HashMap<u64, EnumBlock<'a>>,
 }
 
 impl<'a> Homes<'a> {
@@ -21,7 +21,7 @@ impl<'a> Homes<'a> {
     pub fn new(alloc: Global, blocks: &[EnumBlock<'a>]) -> Result<Homes<'a>, OutOfMemory>
         ensures { IfOk result (λ h. (i : ℕ) → home_at i h ≡ block_in (block_views blocks.now) i) }
     {
-        let mut homes = IndexMap::new(alloc);
+        let mut homes = HashMap::new(alloc);
         let mut i = blocks.len();
         while i > 0 {
             i -= 1;
@@ -39,10 +39,10 @@ impl<'a> Homes<'a> {
 }
 
 /// Puts the block in front of what stands there.
-#[tactic(auto, using(crate::proofs::Backwards::at_put))]
+#[tactic(auto, using(crate::proofs::Firsts::number_look))]
 fn put_block<'a>(
     block: &EnumBlock<'a>,
-    homes: &mut IndexMap<u64, EnumBlock<'a>>,
+    homes: &mut HashMap<u64, EnumBlock<'a>>,
 ) -> Result<(), OutOfMemory>
     ensures { OnOk result ((q : ℕ) → at_number q homes.new.entries
         ≡ (if q == block.now.body.0 then Some block.now else at_number q homes.old.entries)) }

@@ -5,15 +5,15 @@ ghost use Rattle.oxt_enums.specs.Tables.{at_number, owner_at};
 ghost use Rattle.oxt_scopes.specs.OwnedViews.{owned_views};
 ghost use Rattle.oxt_scopes.specs.Stack.{number_at};
 
-use indexmap::IndexMap;
 use oxt_names::ids::{NodeId, OutOfMemory};
 use oxt_scopes::owners::OwnedName;
 use std::alloc::Global;
+use std::collections::HashMap;
 
 /// The owners of the names of a tree.
 #[derive(Drop)]
 pub struct Owners {
-    owners: IndexMap<u64, Option<NodeId>>,
+    owners: HashMap<u64, Option<NodeId>>,
 }
 
 impl Owners {
@@ -22,7 +22,7 @@ impl Owners {
     pub fn new(alloc: Global, names: &[OwnedName]) -> Result<Owners, OutOfMemory>
         ensures { IfOk result (λ o. (i : ℕ) → owner_at i o ≡ owner_in (owned_views names.now) i) }
     {
-        let mut owners = IndexMap::new(alloc);
+        let mut owners = HashMap::new(alloc);
         let mut i = names.len();
         while i > 0 {
             i -= 1;
@@ -43,11 +43,8 @@ impl Owners {
 }
 
 /// Puts the owner of the name in front of what stands there.
-#[tactic(auto, using(crate::proofs::Backwards::at_put))]
-fn put_owner(
-    name: &OwnedName,
-    owners: &mut IndexMap<u64, Option<NodeId>>,
-) -> Result<(), OutOfMemory>
+#[tactic(auto, using(crate::proofs::Firsts::number_look))]
+fn put_owner(name: &OwnedName, owners: &mut HashMap<u64, Option<NodeId>>) -> Result<(), OutOfMemory>
     ensures { OnOk result ((q : ℕ) → at_number q owners.new.entries
         ≡ (if q == name.now.node.0 then Some name.now.owner else at_number q owners.old.entries)) }
 {

@@ -19,12 +19,12 @@ ghost use Rattle.std.specs.Prelude.{◌≡◌, option_map};
 
 use crate::parts::{field_mut, put_field};
 use oxt_ctx::context::TraverseCtx;
+use oxt_ctx::hook::Hook;
+use oxt_ctx::pass::Pass;
 use oxt_grammar::field::Field;
 use oxt_grammar::kind::Kind;
 use oxt_names::ids::OutOfMemory;
 use oxt_options::{RewriteExtensionsMode, TypeScriptOptions};
-use oxt_pass::hook::Hook;
-use oxt_pass::pass::Pass;
 use oxt_tree::tree::{Node, Part};
 use std::alloc::Global;
 

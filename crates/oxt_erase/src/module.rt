@@ -21,15 +21,15 @@ ghost use Rattle.oxt_erase.specs.Context.{but_table_of};
 use crate::alias::lower_alias;
 use crate::parts::take_node;
 use oxt_ctx::context::TraverseCtx;
+use oxt_ctx::hook::Hook;
 use oxt_ctx::nodes::{assignment, member, property_name, statement};
+use oxt_ctx::pass::Pass;
 use oxt_grammar::field::Field;
 use oxt_grammar::kind::Kind;
 use oxt_names::flags::ReferenceFlags;
 use oxt_names::ids::OutOfMemory;
 use oxt_names::name::Name;
 use oxt_options::Module;
-use oxt_pass::hook::Hook;
-use oxt_pass::pass::Pass;
 use oxt_tree::tree::{Node, Part};
 use std::alloc::Global;
 

@@ -24,9 +24,9 @@ use crate::fields::clear_types;
 use crate::opening::{open_target, open_wrapper};
 use crate::statements::{drop_elements, drop_erased};
 use oxt_ctx::context::TraverseCtx;
+use oxt_ctx::hook::Hook;
+use oxt_ctx::pass::Pass;
 use oxt_names::ids::OutOfMemory;
-use oxt_pass::hook::Hook;
-use oxt_pass::pass::Pass;
 use oxt_tree::tree::{Node, Part};
 
 /// The pass that erases what stands for nothing at run time: declarations and class elements of

@@ -8,3 +8,4 @@ pub mod Sameness
 pub mod Shares
 pub mod Strips
 pub mod Tells
+pub mod Places

@@ -1,5 +1,5 @@
 -- Blocks of enums around a place, one after the other.
-use Rattle.std.proofs.Common.{◌≡◌, ◌∙◌, refl, sym, ap, ℕ, ◌+◌, ◌<◌, ◌≤◌, List, [], ◌∷◌, length, drop, get_or, fold}
+use Rattle.std.proofs.Common.{◌≡◌, ◌∙◌, sym, ap, ℕ, ◌+◌, ◌<◌, ◌≤◌, List, length, drop, get_or, fold}
 use Rattle.oxt_names.proofs.Lists.{drop_at, drop_end}
 use Rattle.oxt_facts.specs.Owners.{inner_if}
 use Rattle.oxt_facts.specs.declared.facts.Inner.{Inner}

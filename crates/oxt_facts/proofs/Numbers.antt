@@ -1,12 +1,6 @@
 -- Numbering the tags of items, one item after the other.
-use Rattle.std.proofs.Common.{◌≡◌, ◌∙◌, refl, sym, ap, subst, ℕ, zero, suc, ◌+◌, ◌<◌, ◌≤◌, List, [], ◌∷◌, ◌++◌, map, length, drop, take, get_or, add-one, append-nil, arith, Bool, true, false, cond, not, ◌||◌, if◌then◌else◌, String, string_bytes, Option, Some, None}
+use Rattle.std.proofs.Common.{◌≡◌, ◌∙◌, refl, sym, ap, ℕ, zero, suc, ◌+◌, ◌<◌, ◌≤◌, List, [], ◌∷◌, ◌++◌, length, drop, take, get_or, add-one, arith}
 use Rattle.std.proofs.Math.ListN.{set}
-use Rattle.std.proofs.lemmas.List.{map-append}
-use Rattle.std.specs.List.{list_any, position_or_len}
-use Rattle.std.specs.Str.{bytes_eq}
-use Rattle.std.specs.String.{string_eq}
-use Rattle.std.specs.declared.alloc.Global.{Global}
-use Rattle.indexmap.specs.IndexSet.{insert_key}
 use Rattle.oxt_facts.specs.Entry.{Entry, entries, entry_of}
 use Rattle.oxt_facts.specs.Tags.{noted, numbered, tag_in, with_number}
 use Rattle.oxt_facts.specs.declared.item.Item.{Item}
@@ -34,19 +28,3 @@ no_more whole ts i xs past before = sym (before ∙ all ts i xs past)
     all ts (suc i) [] past = refl
     all ts zero (x ∷ xs) past = absurd (omega arith)
     all ts (suc i) (x ∷ xs) past = ap (λ v. entry_of x ∷ v) (all ts i xs (omega arith))
-
--- the texts of strings
-pub any_text : (k : String Global) (ks : List (String Global)) → list_any (string_eq k) ks ≡ list_any (bytes_eq (string_bytes k)) (map string_bytes ks)
-any_text k [] = refl
-any_text k (l ∷ ks) = ap (λ b. string_eq k l || b) (any_text k ks)
-
-pub place_of_text : (k : String Global) (ks : List (String Global)) → position_or_len (string_eq k) ks ≡ position_or_len (bytes_eq (string_bytes k)) (map string_bytes ks)
-place_of_text k [] = refl
-place_of_text k (l ∷ ks) = ap (λ n. cond (not (string_eq k l)) (1 + n) 0) (place_of_text k ks)
-
-pub text_added : (k : String Global) (ks : List (String Global)) → map string_bytes (insert_key string_eq ks k) ≡ noted (map string_bytes ks) (Some (string_bytes k))
-text_added k ks = step (list_any (string_eq k) ks) ∙ ap (λ b. if b then map string_bytes ks else map string_bytes ks ++ string_bytes k ∷ []) (any_text k ks)
-  where
-    step : (b : Bool) → map string_bytes (if b then ks else ks ++ k ∷ []) ≡ (if b then map string_bytes ks else map string_bytes ks ++ string_bytes k ∷ [])
-    step true = refl
-    step false = map-append string_bytes ks (k ∷ [])

@@ -9,3 +9,4 @@ pub mod Privates
 pub mod Shared
 pub mod Tags
 pub mod Told
+pub mod Met

@@ -2,7 +2,7 @@
 use Rattle.std.specs.Prelude.{ℕ, List, [], ◌∷◌, ◌++◌, Bool, true, false, if◌then◌else◌, Option, None, Some}
 use Rattle.std.specs.List.{list_any, position_or_len}
 use Rattle.std.specs.Str.{bytes_eq}
-use Rattle.oxt_tree.specs.Doc.{Doc, number}
+use Rattle.oxt_tree.specs.Doc.{number}
 use Rattle.oxt_tree.specs.Fields.{text_in}
 use Rattle.oxt_facts.specs.Entry.{Entry}
 use Rattle.oxt_facts.specs.declared.item.ItemKind.{ItemKind}

@@ -4,7 +4,7 @@ ghost use Rattle.oxt_facts.specs.Entry.{entries, entry_of};
 ghost use Rattle.oxt_facts.specs.Groups.{groups_met, is_declaring, met_in, number_among, numbered_groups, with_met, with_number_among};
 
 use crate::item::{Item, ItemKind};
-use indexmap::IndexSet;
+use crate::met::MetGroups;
 use oxt_names::ids::OutOfMemory;
 use std::alloc::Global;
 
@@ -27,10 +27,10 @@ pub fn number_groups(alloc: Global, items: &mut Vec<Item>) -> Result<(), OutOfMe
 
 /// The groups that the items declare, in the order of their first declarations.
 #[tactic(auto, using(crate::proofs::Declared::met_steps))]
-fn groups_met(alloc: Global, items: &[Item]) -> Result<IndexSet<u64>, OutOfMemory>
-    ensures { IfOk result (λ met. met.keys ≡ groups_met [] (entries items.now)) }
+fn groups_met(alloc: Global, items: &[Item]) -> Result<MetGroups, OutOfMemory>
+    ensures { IfOk result (λ met. met ≡ groups_met [] (entries items.now)) }
 {
-    let mut met = IndexSet::new(alloc);
+    let mut met = MetGroups::new(alloc);
     for item in items {
         meet(item, &mut met)?;
     }
@@ -38,8 +38,8 @@ fn groups_met(alloc: Global, items: &[Item]) -> Result<IndexSet<u64>, OutOfMemor
 }
 
 /// Adds the group that the item declares, if it declares one.
-fn meet(item: &Item, met: &mut IndexSet<u64>) -> Result<(), OutOfMemory>
-    ensures { OnOk result (met.new.keys ≡ met_in (entry_of item.now) met.old.keys) }
+fn meet(item: &Item, met: &mut MetGroups) -> Result<(), OutOfMemory>
+    ensures { OnOk result (met.new ≡ met_in (entry_of item.now) met.old) }
 {
     if is_declaring(item.kind) {
         meet_group(item.group, met)
@@ -49,28 +49,28 @@ fn meet(item: &Item, met: &mut IndexSet<u64>) -> Result<(), OutOfMemory>
 }
 
 /// Adds the group, if there is one.
-fn meet_group(group: Option<u64>, met: &mut IndexSet<u64>) -> Result<(), OutOfMemory>
-    ensures { OnOk result (met.new.keys ≡ with_met group met.old.keys) }
+fn meet_group(group: Option<u64>, met: &mut MetGroups) -> Result<(), OutOfMemory>
+    ensures { OnOk result (met.new ≡ with_met group met.old) }
 {
     if let Some(group) = group {
-        met.insert(group)?;
+        met.meet(group)?;
     }
     Ok(())
 }
 
 /// Puts the number of the item's group among these in its place.
-fn number_group(met: &IndexSet<u64>, item: &mut Item)
-    ensures { entry_of item.new ≡ with_number_among met.now.keys (entry_of item.old) }
+fn number_group(met: &MetGroups, item: &mut Item)
+    ensures { entry_of item.new ≡ with_number_among met.now (entry_of item.old) }
 {
     item.group = number_among(met, item.group);
 }
 
 /// The number of the group among these.
-fn number_among(met: &IndexSet<u64>, group: Option<u64>) -> Option<u64>
-    ensures { result ≡ number_among met.now.keys group }
+fn number_among(met: &MetGroups, group: Option<u64>) -> Option<u64>
+    ensures { result ≡ number_among met.now group }
 {
     match group {
-        Some(group) => match met.get_index_of(&group) {
+        Some(group) => match met.number_of(group) {
             Some(number) => Some(number as u64),
             None => None,
         },

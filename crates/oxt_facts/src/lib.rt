@@ -7,6 +7,7 @@ pub mod facts;
 pub mod groups;
 pub mod inside;
 pub mod item;
+mod met;
 pub mod owners;
 pub mod privates;
 pub mod tags;

@@ -1,18 +1,19 @@
 //! The groups that names mean and declare.
-ghost use Rattle.std.specs.Prelude.{◌≡◌, [], OnOk, nat_eq};
-ghost use Rattle.indexmap.specs.IndexMap.{insert_entry};
+ghost use Rattle.std.specs.Prelude.{◌≡◌, [], OnOk};
+ghost use Rattle.std.specs.BTreeMap.{insert_entry};
+ghost use Rattle.std.specs.Ordering.{nat_cmp};
 ghost use Rattle.oxt_facts.specs.Owners.{owner_in};
 
-use indexmap::IndexMap;
 use oxt_names::ids::{NodeId, OutOfMemory};
 use std::alloc::Global;
+use std::collections::BTreeMap;
 use std::marker::Model;
 
 /// The groups that the names of a tree mean and declare, by the numbers of their nodes. A group is a scope together with
 /// a spelling that it declares; it goes by the number of the first node that declares it. A free name has none.
 #[derive(Drop)]
 pub struct NameGroups {
-    groups: IndexMap<u64, u64>,
+    groups: BTreeMap<u64, u64>,
 }
 
 impl Model for NameGroups {
@@ -29,7 +30,7 @@ impl NameGroups {
         ensures { result ≡ [] }
     {
         NameGroups {
-            groups: IndexMap::new(alloc),
+            groups: BTreeMap::new(alloc),
         }
     }
 
@@ -39,7 +40,7 @@ impl NameGroups {
     ///
     /// Fails only where memory runs out.
     pub fn put(&mut self, node: NodeId, group: u64) -> Result<(), OutOfMemory>
-        ensures { OnOk result (self.new ≡ insert_entry nat_eq self.old node.0 group) }
+        ensures { OnOk result (self.new ≡ insert_entry nat_cmp self.old node.0 group) }
     {
         self.groups.insert(node.0, group)?;
         Ok(())

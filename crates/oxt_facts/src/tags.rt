@@ -1,13 +1,11 @@
 //! The tags of made names.
-ghost use Rattle.std.specs.Prelude.{◌≡◌, [], IfOk, OnOk, Some, map, option_map, string_bytes};
-ghost use Rattle.std.specs.List.{position_or_len};
-ghost use Rattle.std.specs.Str.{bytes_eq};
+ghost use Rattle.std.specs.Prelude.{◌≡◌, [], OnOk, option_map};
 ghost use Rattle.oxt_tree.specs.Fields.{text_in};
 ghost use Rattle.oxt_facts.specs.Entry.{atom_doc, entries, entry_of};
 ghost use Rattle.oxt_facts.specs.Tags.{is_tagged, noted, numbered, tag_in, with_number};
 
 use crate::item::{Atom, Item, ItemKind};
-use indexmap::IndexSet;
+use crate::met::MetTags;
 use oxt_names::ids::OutOfMemory;
 use std::alloc::Global;
 
@@ -20,7 +18,7 @@ use std::alloc::Global;
 pub fn number_tags(alloc: Global, items: &mut Vec<Item>) -> Result<(), OutOfMemory>
     ensures { OnOk result (entries items.new.items ≡ numbered [] (entries items.old.items)) }
 {
-    let mut met = IndexSet::new(alloc);
+    let mut met = MetTags::new(alloc);
     for i in 0..items.len() {
         number_tag(alloc, &mut items[i], &mut met)?;
     }
@@ -28,31 +26,19 @@ pub fn number_tags(alloc: Global, items: &mut Vec<Item>) -> Result<(), OutOfMemo
 }
 
 /// Numbers the made name of the item, if it has one.
-fn number_tag(alloc: Global, item: &mut Item, met: &mut IndexSet<String>) -> Result<(), OutOfMemory>
+fn number_tag(alloc: Global, item: &mut Item, met: &mut MetTags) -> Result<(), OutOfMemory>
     ensures number { OnOk result (entry_of item.new
-        ≡ with_number (map string_bytes met.old.keys) (entry_of item.old) (tag_in (entry_of item.old))) }
-    ensures noted { OnOk result (map string_bytes met.new.keys
-        ≡ noted (map string_bytes met.old.keys) (tag_in (entry_of item.old))) }
+        ≡ with_number met.old (entry_of item.old) (tag_in (entry_of item.old))) }
+    ensures noted { OnOk result (met.new ≡ noted met.old (tag_in (entry_of item.old))) }
 {
     match tag_of(item) {
         Some(tag) => {
-            let number = note(alloc, tag, met)?;
+            let number = met.meet(alloc, tag)?;
             item.spelling = Atom::Number(number as u64);
             Ok(())
         }
         None => Ok(()),
     }
-}
-
-/// The number of the tag among those that were met, as the last where it was not.
-fn note(alloc: Global, tag: &str, met: &mut IndexSet<String>) -> Result<usize, OutOfMemory>
-    ensures number { IfOk result
-        (λ n. n ≡ position_or_len (bytes_eq tag.now) (map string_bytes met.old.keys)) }
-    ensures noted { OnOk result (map string_bytes met.new.keys
-        ≡ noted (map string_bytes met.old.keys) (Some tag.now)) }
-{
-    let (number, _) = met.insert_full(String::from_str(alloc, tag)?)?;
-    Ok(number)
 }
 
 /// The made name that the item stands for.

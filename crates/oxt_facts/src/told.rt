@@ -1,13 +1,14 @@
 //! What is told of nodes of a source that are read otherwise than by the rules of their kinds.
-ghost use Rattle.std.specs.Prelude.{◌≡◌, [], nat_eq, OnOk, option_map};
-ghost use Rattle.indexmap.specs.IndexMap.{insert_entry};
+ghost use Rattle.std.specs.Prelude.{◌≡◌, [], OnOk, option_map};
+ghost use Rattle.std.specs.BTreeMap.{insert_entry};
+ghost use Rattle.std.specs.Ordering.{nat_cmp};
 ghost use Rattle.oxt_facts.specs.Told.{told_of, told_view};
 
-use indexmap::IndexMap;
 use oxt_names::constant::ConstantValue;
 use oxt_names::ids::{NodeId, OutOfMemory};
 use oxt_names::name::Name;
 use std::alloc::Global;
+use std::collections::BTreeMap;
 use std::marker::Model;
 
 /// The value of a member of an enum.
@@ -312,7 +313,7 @@ pub enum Told {
 /// What is told of nodes, by their numbers.
 #[derive(Drop)]
 pub struct ToldNodes {
-    nodes: IndexMap<u64, Told>,
+    nodes: BTreeMap<u64, Told>,
 }
 
 impl Model for ToldNodes {
@@ -329,7 +330,7 @@ impl ToldNodes {
         ensures { result ≡ [] }
     {
         ToldNodes {
-            nodes: IndexMap::new(alloc),
+            nodes: BTreeMap::new(alloc),
         }
     }
 
@@ -340,7 +341,7 @@ impl ToldNodes {
     /// Fails only where memory runs out.
     #[tactic(auto, using(crate::proofs::Tells::told_more))]
     pub fn tell(&mut self, node: NodeId, told: Told) -> Result<(), OutOfMemory>
-        ensures { OnOk result (self.new ≡ insert_entry nat_eq self.old node.0 (told_view told)) }
+        ensures { OnOk result (self.new ≡ insert_entry nat_cmp self.old node.0 (told_view told)) }
     {
         drop(self.nodes.insert(node.0, told)?);
         Ok(())

@@ -5,8 +5,8 @@ use Rattle.oxt_faults.specs.Initializers.{is_constant, own_word, sought}
 use Rattle.oxt_faults.specs.Level.{level_word}
 use Rattle.oxt_grammar.specs.declared.kind.Kind.{Kind}
 use Rattle.oxt_scoping.specs.Scoped.{Scoped}
-use Rattle.oxt_sites.proofs.Outside.{no_member, passing_over}
-use Rattle.oxt_sites.specs.Quiet.{IsQuietOutside}
+use Rattle.oxt_declares.proofs.Outside.{no_member, passing_over}
+use Rattle.oxt_declares.specs.Quiet.{IsQuietOutside}
 use Rattle.oxt_tree.specs.Doc.{Docs}
 use Rattle.oxt_tree.specs.Fields.{named}
 

@@ -5,15 +5,15 @@ ghost use Rattle.oxt_faults.specs.Level.{LevelWordAt, found_view};
 ghost use Rattle.oxt_tree.specs.View.{docs_in, node_doc};
 
 use crate::level::{FoundWord, first_level_word_at};
+use oxt_declares::all::all_at_sites;
 use oxt_declares::dropped::{inside_dropped, is_dropped};
+use oxt_declares::sites::EnumSites;
 use oxt_grammar::field::Field;
 use oxt_grammar::holds::Row;
 use oxt_grammar::kind::Kind;
 use oxt_names::ids::{NodeId, OutOfMemory};
 use oxt_scoping::scoping::Scoping;
 use oxt_search::search::{Inside, Search, Visit};
-use oxt_sites::all::all_at_sites;
-use oxt_sites::sites::EnumSites;
 use oxt_tree::tree::Node;
 use std::alloc::Global;
 

@@ -1,3 +1,3 @@
+mod Uses
 pub mod Elements
 pub mod Symbols
-mod Uses

@@ -2,5 +2,9 @@ pub mod Aliases
 pub mod Classes
 pub mod Fates
 pub mod Marks
+pub mod PrivateIn
 pub mod Rules
+pub mod Statics
+pub mod Storage
+pub mod Text
 pub mod Written

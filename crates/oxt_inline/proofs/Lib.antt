@@ -1,4 +1,3 @@
-pub mod Drops
 pub mod Entries
 pub mod Found
 pub mod Shared

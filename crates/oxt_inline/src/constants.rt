@@ -1,13 +1,11 @@
 //! The constants of the members of all enums.
 ghost use Rattle.std.specs.Option.{option_or};
-ghost use Rattle.std.specs.Prelude.{◌≡◌, ℕ, List, IfOk, OnOk, option_map, slice_get};
-ghost use Rattle.indexmap.specs.IndexMap.{values};
+ghost use Rattle.std.specs.Prelude.{◌≡◌, ℕ, List, IfOk, OnOk, option_map};
 ghost use Rattle.oxt_inline.specs.Constants.{entry_at, Member, first_valued, member_at, own_value, sought, table_at, valued, valued_as, valued_view, valued_views, within};
 ghost use Rattle.oxt_names.specs.Constant.{constant_view};
 ghost use Rattle.oxt_tree.specs.View.{docs_in, node_doc};
 
 use crate::names::named_symbol;
-use indexmap::IndexMap;
 use oxt_grammar::field::Field;
 use oxt_grammar::holds::Row;
 use oxt_grammar::kind::Kind;
@@ -18,6 +16,7 @@ use oxt_search::all::all_in;
 use oxt_search::search::{Inside, Search, Visit};
 use oxt_tree::tree::Node;
 use std::alloc::Global;
+use std::collections::HashMap;
 
 /// A member of an enum that has a constant.
 #[derive(Clone, Copy)]
@@ -33,7 +32,7 @@ pub struct Valued<'a> {
 /// The constants of the members of all enums, by the enum and the name of the member.
 #[derive(Drop)]
 pub struct Constants<'a> {
-    table: IndexMap<(u64, &'a str), &'a ConstantValue>,
+    table: HashMap<(u64, &'a str), &'a ConstantValue>,
 }
 
 impl<'a> Constants<'a> {
@@ -61,7 +60,7 @@ impl<'a> Constants<'a> {
         ensures { IfOk result (λ constants. (e : ℕ) (x : List ℕ) → table_at constants e x
             ≡ first_valued (valued_views members.now) e x) }
     {
-        let mut table = IndexMap::new(alloc);
+        let mut table = HashMap::new(alloc);
         for member in members {
             put(&mut table, *member)?;
         }
@@ -72,31 +71,14 @@ impl<'a> Constants<'a> {
     pub fn get(&self, symbol: SymbolId, name: &str) -> Option<&'a ConstantValue>
         ensures { option_map (λ value. constant_view value.now) result ≡ table_at self.now symbol.0 name.now }
     {
-        match self.table.get_index_of(&(symbol.0, name)) {
-            Some(place) => value_at(&self.table, place),
-            None => None,
-        }
-    }
-}
-
-/// The constant at that place of the table, if there is one.
-fn value_at<'a>(
-    table: &IndexMap<(u64, &'a str), &'a ConstantValue>,
-    place: usize,
-) -> Option<&'a ConstantValue>
-    ensures { option_map (λ value. constant_view value.now) result
-        ≡ option_map (λ value. constant_view value.now) (slice_get (values table.now) place) }
-{
-    match table.get_index(place) {
-        Some((_, value)) => Some(*value),
-        None => None,
+        self.table.get(&(symbol.0, name)).copied()
     }
 }
 
 /// Puts the constant of the member into the table, if no other of its name stands there.
 #[tactic(auto, using(oxt_enums::proofs::Firsts::name_kept))]
 fn put<'a>(
-    table: &mut IndexMap<(u64, &'a str), &'a ConstantValue>,
+    table: &mut HashMap<(u64, &'a str), &'a ConstantValue>,
     member: Valued<'a>,
 ) -> Result<(), OutOfMemory>
     ensures { OnOk result ((e : ℕ) (x : List ℕ) → entry_at e x table.new.entries

@@ -1,12 +1,9 @@
-//! What becomes of enums whose members are inlined: which expressions stand for a constant of a member, and which blocks
-//! are dropped.
+//! Which expressions stand for a constant of a member of an enum whose members are inlined.
 #![tactic(auto)]
 
-mod constants;
-pub mod dropped;
+pub mod constants;
 pub mod inlined;
-mod names;
-mod needed;
-mod seat;
+pub mod names;
+pub mod seat;
 pub mod target;
-mod values;
+pub mod values;

@@ -28,11 +28,11 @@ ghost use Rattle.oxt_lower.specs.Context.{but_table_of};
 use crate::namespace_block::{exports_block, is_block, lower_alone, lower_exported};
 use crate::namespace_list::{flatten, replace_by};
 use oxt_ctx::context::TraverseCtx;
+use oxt_ctx::hook::Hook;
+use oxt_ctx::pass::Pass;
 use oxt_grammar::field::Field;
 use oxt_names::ids::OutOfMemory;
 use oxt_options::TypeScriptOptions;
-use oxt_pass::hook::Hook;
-use oxt_pass::pass::Pass;
 use oxt_tree::fields::place_of;
 use oxt_tree::tree::{Node, Part};
 

@@ -24,9 +24,9 @@ ghost use Rattle.std.specs.Prelude.{◌≡◌};
 use crate::inline::inline_constant;
 use crate::statement::{drop_blocks, lower_statement};
 use oxt_ctx::context::TraverseCtx;
+use oxt_ctx::hook::Hook;
+use oxt_ctx::pass::Pass;
 use oxt_names::ids::OutOfMemory;
-use oxt_pass::hook::Hook;
-use oxt_pass::pass::Pass;
 use oxt_tree::tree::{Node, Part};
 
 /// The pass that puts in the place of each block of an enum the call of a function that makes the

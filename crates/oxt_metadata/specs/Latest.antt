@@ -2,7 +2,6 @@
 use Rattle.std.specs.Prelude.{ℕ, List, [], ◌∷◌, nat_eq, if◌then◌else◌, Option, None, Some}
 use Rattle.std.specs.Map.{lookup}
 use Rattle.std.specs.Option.{option_or}
-use Rattle.indexmap.specs.IndexMap.{insert_entry}
 use Rattle.oxt_metadata.specs.declared.events.Event.{Event}
 use Rattle.oxt_metadata.specs.declared.events.Event.TheVariants as event
 use Rattle.oxt_metadata.specs.declared.shape.Shape.{Shape}
@@ -29,15 +28,20 @@ shape_in t n = lookup (nat_eq n) t.shapes.entries
 
 -- ---- how the program finds that out
 
--- what was noted so far
-pub record Noted : Type 0 where
-  pub latest : List (ℕ × Shape)
-  pub shapes : List (ℕ × Shape)
+-- what a table has, by number
+abbrev pub shapes_at : List (ℕ × Shape) → ℕ → Option Shape
+shapes_at es n = lookup (nat_eq n) es
 
-abbrev pub with_shape : ℕ → Option Shape → List (ℕ × Shape) → List (ℕ × Shape)
-with_shape n None es = es
-with_shape n (Some p) es = insert_entry nat_eq es n p
+-- what was noted so far of blocks and of names
+pub record Noted : Type 0 where
+  pub latest : Blocks
+  pub shapes : ℕ → Option Shape
+
+-- with that of one more name, if there is one
+abbrev pub with_shape : ℕ → Option Shape → (ℕ → Option Shape) → ℕ → Option Shape
+with_shape i None e = e
+with_shape i (Some p) e = with_block i p e
 
 abbrev pub noted : Event → Noted → Noted
-noted (event.Block y p) n = record n { latest = insert_entry nat_eq n.latest y.0 p }
-noted (event.Name i y) n = record n { shapes = with_shape i.0 (lookup (nat_eq y.0) n.latest) n.shapes }
+noted (event.Block y p) n = record n { latest = with_block y.0 p n.latest }
+noted (event.Name i y) n = record n { shapes = with_shape i.0 (n.latest y.0) n.shapes }

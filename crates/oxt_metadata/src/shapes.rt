@@ -1,27 +1,26 @@
 //! The shapes of the enums that names in types mean, by the last block before each name.
 ghost use Rattle.std.specs.Prelude.{◌≡◌, ℕ, IfOk, None, OnOk, nat_eq};
 ghost use Rattle.std.specs.Map.{lookup};
-ghost use Rattle.indexmap.specs.IndexMap.{insert_entry};
 ghost use Rattle.oxt_metadata.specs.Events.{events};
-ghost use Rattle.oxt_metadata.specs.Latest.{noted, shape_in, shaped, with_shape};
+ghost use Rattle.oxt_metadata.specs.Latest.{noted, shape_in, shaped, shapes_at, with_block, with_shape};
 ghost use Rattle.oxt_tree.specs.View.{node_doc};
 
 use crate::events::{Event, events_of};
 use crate::shape::Shape;
-use indexmap::IndexMap;
 use oxt_names::ids::{NodeId, OutOfMemory, SymbolId};
 use oxt_scoping::scoping::Scoping;
 use oxt_tree::tree::Node;
 use std::alloc::Global;
+use std::collections::HashMap;
 
 /// The shapes of the enums that names in types mean, by the numbers of the names.
 #[derive(Drop)]
 pub struct EnumShapes {
-    shapes: IndexMap<u64, Shape>,
+    shapes: HashMap<u64, Shape>,
 }
 
 /// The shapes of the blocks that stood last, by the numbers of their enums' symbols.
-type Latest = IndexMap<u64, Shape>;
+type Latest = HashMap<u64, Shape>;
 
 impl EnumShapes {
     /// Those of the program: each name has the shape of the last block of its enum that stands before it outside erased code,
@@ -49,11 +48,11 @@ impl EnumShapes {
 
 /// The shapes that the names have among these events.
 #[tactic(auto, using(crate::proofs::Turns::steps))]
-fn shapes_in(alloc: Global, events: &[Event]) -> Result<IndexMap<u64, Shape>, OutOfMemory>
+fn shapes_in(alloc: Global, events: &[Event]) -> Result<HashMap<u64, Shape>, OutOfMemory>
     ensures { IfOk result (λ shapes. (n : ℕ) → lookup (nat_eq n) shapes.entries ≡ shaped (λ _. None) events.now n) }
 {
-    let mut latest = IndexMap::new(alloc);
-    let mut shapes = IndexMap::new(alloc);
+    let mut latest = HashMap::new(alloc);
+    let mut shapes = HashMap::new(alloc);
     for event in events {
         note(*event, &mut latest, &mut shapes)?;
     }
@@ -64,12 +63,12 @@ fn shapes_in(alloc: Global, events: &[Event]) -> Result<IndexMap<u64, Shape>, Ou
 fn note(
     event: Event,
     latest: &mut Latest,
-    shapes: &mut IndexMap<u64, Shape>,
+    shapes: &mut HashMap<u64, Shape>,
 ) -> Result<(), OutOfMemory>
-    ensures blocks { OnOk result (latest.new.entries
-        ≡ (noted event (record { latest = latest.old.entries; shapes = shapes.old.entries })).latest) }
-    ensures names { OnOk result (shapes.new.entries
-        ≡ (noted event (record { latest = latest.old.entries; shapes = shapes.old.entries })).shapes) }
+    ensures blocks { OnOk result (shapes_at latest.new.entries
+        ≡ (noted event (record { latest = shapes_at latest.old.entries; shapes = shapes_at shapes.old.entries })).latest) }
+    ensures names { OnOk result (shapes_at shapes.new.entries
+        ≡ (noted event (record { latest = shapes_at latest.old.entries; shapes = shapes_at shapes.old.entries })).shapes) }
 {
     match event {
         Event::Block(symbol, shape) => put(latest, symbol.0, shape),
@@ -88,9 +87,9 @@ fn latest_of(latest: &Latest, symbol: SymbolId) -> Option<Shape>
 fn note_name(
     name: NodeId,
     shape: Option<Shape>,
-    shapes: &mut IndexMap<u64, Shape>,
+    shapes: &mut HashMap<u64, Shape>,
 ) -> Result<(), OutOfMemory>
-    ensures { OnOk result (shapes.new.entries ≡ with_shape name.0 shape shapes.old.entries) }
+    ensures { OnOk result (shapes_at shapes.new.entries ≡ with_shape name.0 shape (shapes_at shapes.old.entries)) }
 {
     match shape {
         Some(shape) => put(shapes, name.0, shape),
@@ -99,8 +98,9 @@ fn note_name(
 }
 
 /// Puts the shape under the number.
-fn put(table: &mut IndexMap<u64, Shape>, number: u64, shape: Shape) -> Result<(), OutOfMemory>
-    ensures { OnOk result (table.new.entries ≡ insert_entry nat_eq table.old.entries number shape) }
+#[tactic(auto, using(crate::proofs::Turns::put_shape))]
+fn put(table: &mut HashMap<u64, Shape>, number: u64, shape: Shape) -> Result<(), OutOfMemory>
+    ensures { OnOk result (shapes_at table.new.entries ≡ with_block number shape (shapes_at table.old.entries)) }
 {
     table.insert(number, shape)?;
     Ok(())

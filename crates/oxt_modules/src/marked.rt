@@ -6,7 +6,6 @@ ghost use Rattle.oxt_options.specs.Options.{typescript_view};
 ghost use Rattle.oxt_tree.specs.View.{doc_or_nil, docs_in, node_doc, part_doc};
 
 use crate::symbols::is_value_use;
-use indexmap::IndexMap;
 use oxt_declares::imports::is_alias;
 use oxt_grammar::field::Field;
 use oxt_grammar::holds::Row;
@@ -19,10 +18,11 @@ use oxt_search::first::first_in;
 use oxt_search::search::{Inside, Search, Visit};
 use oxt_tree::tree::{Node, Part};
 use std::alloc::Global;
+use std::collections::HashMap;
 
 /// How many of the references to a symbol, from the first on, were found to be no value uses beside the marked names, by
 /// the numbers of the symbols. More marks change none of them.
-type Passed = IndexMap<u64, usize>;
+type Passed = HashMap<u64, usize>;
 
 /// The names that are no value uses: the statements of the program are looked at from the last to the first, and an
 /// `import =` without `export` that no value use beside the names marked before means marks the first name of its right
@@ -57,7 +57,7 @@ fn mark_statements(
     ensures { IfOk result (λ names. names ≡ marked_in scoping.now (docs_in statements.now)) }
 {
     let mut marked = NodeList::new(alloc);
-    let mut passed = IndexMap::new(alloc);
+    let mut passed = HashMap::new(alloc);
     for behind in 0..statements.len() {
         let statement = &statements[statements.len() - 1 - behind];
         marked = mark_part(scoping, &mut passed, marked, statement)?;

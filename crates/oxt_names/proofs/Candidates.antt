@@ -9,7 +9,7 @@ use Rattle.std.proofs.lemmas.Cmp.{nat_list_eq_equiv}
 use Rattle.std.proofs.lemmas.Fmt.{decimal_injective, decimal_nonempty}
 use Rattle.std.proofs.lemmas.Map.Made.{length-le_from_is_member}
 use Rattle.std.proofs.lemmas.Slice.Eq.{bytes_eq-Decides}
-use Rattle.oxt_names.proofs.Tables.{among_added, among_more, added_new, added_present}
+use Rattle.oxt_names.proofs.Tables.{among_added, among_more, added_present}
 use Rattle.oxt_names.specs.Made.{is_among, added, candidate, first_free}
 use Rattle.oxt_names.specs.Tried.{FirstFree, TriedBelow}
 
@@ -142,8 +142,5 @@ tried_again taken after base t from number e b tried first =
 pub base_stays : (taken after : List (List ℕ)) (base t : List ℕ) → after ≡ added t taken → is_among base taken ≡ true → is_among base after ≡ true
 base_stays taken after base t e b = subst (λ ss. is_among base ss ≡ true) (sym e) (among_more base t taken b)
 
-pub one_more : (taken after last : List (List ℕ)) (base t u : List ℕ) → u ≡ t → after ≡ added t taken → last ≡ added base after → is_among base taken ≡ true → is_among t taken ≡ false → last ≡ taken ++ u ∷ []
-one_more taken after last base t u s e l b f = l ∙ added_present base after (base_stays taken after base t e b) ∙ e ∙ added_new t taken f ∙ ap (λ v. taken ++ v ∷ []) (sym s)
-
-pub one_bare : (taken after : List (List ℕ)) (base u : List ℕ) → u ≡ base → after ≡ added base taken → is_among base taken ≡ false → after ≡ taken ++ u ∷ []
-one_bare taken after base u s e f = e ∙ added_new base taken f ∙ ap (λ v. taken ++ v ∷ []) (sym s)
+pub one_more : (taken after last : List (List ℕ)) (base t u : List ℕ) → u ≡ t → after ≡ added t taken → last ≡ added base after → is_among base taken ≡ true → last ≡ added u taken
+one_more taken after last base t u s e l b = l ∙ added_present base after (base_stays taken after base t e b) ∙ e ∙ ap (λ v. added v taken) (sym s)

@@ -2,17 +2,23 @@
 -- name.
 use Rattle.std.specs.Prelude.{ℕ, zero, suc, ◌==◌, List, [], ◌∷◌, ◌++◌, length, Bool, true, false, ◌&&◌, nat_le, if◌then◌else◌}
 use Rattle.std.specs.Fmt.{decimal}
+use Rattle.std.specs.Cmp.Lexicographic.{slice_cmp}
 use Rattle.std.specs.List.{list_any}
+use Rattle.std.specs.Ordering.{match_ordering, nat_cmp}
 use Rattle.std.specs.Str.{bytes_eq}
 
 -- the text is one of the texts
 abbrev pub is_among : List ℕ → List (List ℕ) → Bool
 is_among t ss = list_any (bytes_eq t) ss
 
--- the texts and that one, which goes last where they did not have it
+-- the texts and that one, before the first of them that is not before it in the order of their bytes
+abbrev pub placed : List ℕ → List (List ℕ) → List (List ℕ)
+placed t [] = t ∷ []
+placed t (s ∷ ss) = match_ordering (slice_cmp nat_cmp t s) (t ∷ s ∷ ss) (s ∷ ss) (s ∷ placed t ss)
+
+-- the texts and that one, which goes to its place where they did not have it
 abbrev pub added : List ℕ → List (List ℕ) → List (List ℕ)
-added t [] = t ∷ []
-added t (s ∷ ss) = if bytes_eq t s then s ∷ ss else s ∷ added t ss
+added t ss = if is_among t ss then ss else placed t ss
 
 -- the texts and each of those in turn
 abbrev pub all_added : List (List ℕ) → List (List ℕ) → List (List ℕ)

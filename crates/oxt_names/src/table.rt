@@ -1,5 +1,5 @@
 //! The table of taken names: each with the next number to try behind it.
-ghost use Rattle.std.specs.Prelude.{◌≡◌, ◌++◌, ◌∷◌, [], IfOk, OnErr, OnOk, false, length, string_bytes, true, MatchOption};
+ghost use Rattle.std.specs.Prelude.{◌≡◌, IfOk, OnErr, OnOk, false, length, string_bytes, true, MatchOption};
 ghost use Rattle.oxt_names.specs.Names.{name_bytes};
 ghost use Rattle.oxt_names.specs.Made.{added, first_free, is_among};
 ghost use Rattle.oxt_names.specs.Tried.{FirstFree, IsTried, TriedBelow, spellings};
@@ -7,11 +7,11 @@ ghost use Rattle.oxt_names.specs.Tried.{FirstFree, IsTried, TriedBelow, spelling
 use crate::base::numbered;
 use crate::ids::OutOfMemory;
 use crate::name::Name;
-use indexmap::IndexMap;
 use std::alloc::Global;
+use std::collections::BTreeMap;
 
 /// The taken names.
-pub type Table = IndexMap<String, u64>;
+pub type Table = BTreeMap<String, u64>;
 
 /// A text that is not taken, and the number behind its base.
 #[derive(Drop)]
@@ -52,7 +52,7 @@ pub fn make(alloc: Global, table: &mut Table, base: String) -> Result<Name, OutO
         (λ name. is_among (name_bytes name) (spellings table.old.entries) ≡ false) }
     ensures names { IfOk result
         (λ name. spellings table.new.entries
-        ≡ spellings table.old.entries ++ name_bytes name ∷ []) }
+        ≡ added (name_bytes name) (spellings table.old.entries)) }
     ensures kept { OnErr result (spellings table.new.entries ≡ spellings table.old.entries) }
     ensures tried { IsTried table.new.entries }
 {
@@ -83,7 +83,7 @@ fn make_numbered(
         (λ name. is_among (name_bytes name) (spellings table.old.entries) ≡ false) }
     ensures names { IfOk result
         (λ name. spellings table.new.entries
-        ≡ spellings table.old.entries ++ name_bytes name ∷ []) }
+        ≡ added (name_bytes name) (spellings table.old.entries)) }
     ensures kept { OnErr result (spellings table.new.entries ≡ spellings table.old.entries) }
     ensures tried { IsTried table.new.entries }
 {

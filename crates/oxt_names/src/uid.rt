@@ -1,5 +1,5 @@
 //! Names that are made.
-ghost use Rattle.std.specs.Prelude.{◌≡◌, ◌++◌, ◌∷◌, [], IfOk, OnErr, OnOk, false};
+ghost use Rattle.std.specs.Prelude.{◌≡◌, [], IfOk, OnErr, OnOk, false};
 ghost use Rattle.oxt_names.specs.Names.{name_bytes};
 ghost use Rattle.oxt_names.specs.Made.{added, is_among, made_name};
 
@@ -7,11 +7,11 @@ use crate::base::base_of;
 use crate::ids::OutOfMemory;
 use crate::name::Name;
 use crate::table::{self, Table};
-use indexmap::IndexMap;
 use std::alloc::Global;
+use std::collections::BTreeMap;
 use std::marker::Model;
 
-/// The names that are taken, by the source or by names made before. Contracts see their texts.
+/// The names that are taken, by the source or by names made before. Contracts see their texts, in the order of their bytes.
 #[derive(Drop)]
 pub struct UidNames {
     alloc: Global,
@@ -36,7 +36,7 @@ impl UidNames {
     {
         UidNames {
             alloc,
-            table: IndexMap::new(alloc),
+            table: BTreeMap::new(alloc),
         }
     }
 
@@ -71,7 +71,7 @@ impl UidNames {
     pub fn generate_uid_name(&mut self, name: &str) -> Result<Name, OutOfMemory>
         ensures first { IfOk result (λ made. name_bytes made ≡ made_name self.old name.now) }
         ensures free { IfOk result (λ made. is_among (name_bytes made) self.old ≡ false) }
-        ensures taken { IfOk result (λ made. self.new ≡ self.old ++ name_bytes made ∷ []) }
+        ensures taken { IfOk result (λ made. self.new ≡ added (name_bytes made) self.old) }
         ensures kept { OnErr result (self.new ≡ self.old) }
     {
         let base = base_of(self.alloc, name)?;

@@ -1,5 +1,4 @@
 mod Dots
-pub mod Inserts
 pub mod Known
 mod Made
 mod Tables

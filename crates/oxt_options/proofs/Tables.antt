@@ -1,10 +1,8 @@
--- Tables of constants, as contracts see them.
+-- Tables of constants, classes and types, as contracts see them.
 use denote.Ref.{Bor}
-use Rattle.std.proofs.Common.{◌≡◌, refl, sym, ap, ◌∙◌, ℕ, ◌+◌, ◌<◌, ◌≤◌, List, [], ◌∷◌, length, drop, get_or, Bool, true, false, cond, nat_eq, Option, None, Some, option_map, add-one, drop-cons, arith}
+use Rattle.std.proofs.Common.{◌≡◌, refl, sym, ap, ◌∙◌, ℕ, ◌+◌, ◌<◌, ◌≤◌, List, [], ◌∷◌, length, drop, get_or, Bool, true, false, cond, nat_eq, Option, None, Some, option_map, add-one, drop-cons}
 use Rattle.std.specs.Map.{lookup, update, update_all}
 use Rattle.std.specs.Option.{option_copied, option_or}
-use Rattle.indexmap.specs.IndexMap.{insert_entry}
-use Rattle.oxt_options.proofs.Inserts.{inserted}
 use Rattle.oxt_options.specs.Facts.{alias_at, constant_at, last_alias, last_constant}
 use Rattle.oxt_options.specs.Lists.{by_number, constants_in, types_in}
 use Rattle.oxt_options.specs.Metadata.{last_type, type_at}
@@ -44,70 +42,50 @@ all_over [] f n = refl
 all_over (c ∷ cs) f n =
     all_over cs (update nat_eq f c.0.0 (Some c.1)) n ∙ one_over (last_constant (constants_in cs) n) (nat_eq c.0.0 n) c.1 (f n)
 
-or_none : (o : Option Constant) → option_or o None ≡ o
-or_none (Some w) = refl
-or_none None = refl
+no_value : {V : Type 0} (o : Option V) → option_or o None ≡ o
+no_value (Some w) = refl
+no_value None = refl
 
 -- A table into which constants were put in turn has the last of each node.
 pub all_put : (cs : List (NodeId × ConstantValue)) (es : List (ℕ × ConstantValue))
     → ((n : ℕ) → lookup (nat_eq n) es ≡ update_all nat_eq (λ _. None) (by_number cs) n)
     → (n : ℕ) → constant_at (constants_of es) n ≡ last_constant (constants_in cs) n
 all_put cs es put n =
-    sym (constant_found es n) ∙ ap (option_map constant_view) (put n) ∙ all_over cs (λ _. None) n ∙ or_none (last_constant (constants_in cs) n)
+    sym (constant_found es n) ∙ ap (option_map constant_view) (put n) ∙ all_over cs (λ _. None) n ∙ no_value (last_constant (constants_in cs) n)
 
--- one more class over those that stood
-alias_over : (o : Option ℕ) (b : Bool) (v : ℕ) (p : Option ℕ) → option_or o (cond b (Some v) p) ≡ option_or (option_or o (cond b (Some v) None)) p
-alias_over (Some w) b v p = refl
-alias_over None true v p = refl
-alias_over None false v p = refl
+-- one more value over those that stood
+value_over : {V : Type 0} (o : Option V) (b : Bool) (v : V) (p : Option V) → option_or o (cond b (Some v) p) ≡ option_or (option_or o (cond b (Some v) None)) p
+value_over (Some w) b v p = refl
+value_over None true v p = refl
+value_over None false v p = refl
 
 -- classes put in turn over those that stood
 aliases_over : (cs : List (ℕ × ℕ)) (f : ℕ → Option ℕ) (n : ℕ) → update_all nat_eq f cs n ≡ option_or (last_alias cs n) (f n)
 aliases_over [] f n = refl
 aliases_over (c ∷ cs) f n =
-    aliases_over cs (update nat_eq f c.0 (Some c.1)) n ∙ alias_over (last_alias cs n) (nat_eq c.0 n) c.1 (f n)
-
-no_alias : (o : Option ℕ) → option_or o None ≡ o
-no_alias (Some w) = refl
-no_alias None = refl
+    aliases_over cs (update nat_eq f c.0 (Some c.1)) n ∙ value_over (last_alias cs n) (nat_eq c.0 n) c.1 (f n)
 
 -- A table into which classes were put in turn has the last of each node.
 pub aliases_put : (cs : List (ℕ × ℕ)) (es : List (ℕ × ℕ))
     → ((n : ℕ) → lookup (nat_eq n) es ≡ update_all nat_eq (λ _. None) cs n)
     → (n : ℕ) → alias_at es n ≡ last_alias cs n
-aliases_put cs es put n = put n ∙ aliases_over cs (λ _. None) n ∙ no_alias (last_alias cs n)
+aliases_put cs es put n = put n ∙ aliases_over cs (λ _. None) n ∙ no_value (last_alias cs n)
 
 -- what was put of the types, with what is left of them, says what all of them say
 abbrev pub IsPut : List (NodeId × MetadataType) → List (ℕ × MetadataType) → List (NodeId × MetadataType) → Type 0
 IsPut all es left = (n : ℕ) → last_type (types_in all) n ≡ option_or (last_type (types_in left) n) (type_at es n)
 
-same_test : (k n : ℕ) → nat_eq k n ≡ nat_eq n k
-same_test k n = grind arith
-
--- one more type over those that stood
-type_over : (left : Option MetadataType) (es : List (ℕ × MetadataType)) (k n : ℕ) (v : MetadataType)
-    → option_or (option_or left (cond (nat_eq k n) (Some v) None)) (type_at es n) ≡ option_or left (type_at (insert_entry nat_eq es k v) n)
-type_over (Some w) es k n v = refl
-type_over None es k n v = by (nat_eq k n) ∙ ap (λ b. cond b (Some v) (type_at es n)) (same_test k n) ∙ sym (inserted es k v n)
-  where
-    by : (b : Bool) → option_or (cond b (Some v) None) (type_at es n) ≡ cond b (Some v) (type_at es n)
-    by true = refl
-    by false = refl
-
-no_type : (o : Option MetadataType) → o ≡ option_or o None
-no_type (Some w) = refl
-no_type None = refl
-
 pub none_put : (ts : List (NodeId × MetadataType)) → IsPut ts [] ts
-none_put ts n = no_type (last_type (types_in ts) n)
+none_put ts n = sym (no_value (last_type (types_in ts) n))
 
 pub one_put : (all ts : List (NodeId × MetadataType)) (i : ℕ) (other : NodeId × MetadataType) (es es' : List (ℕ × MetadataType)) → i < length ts
-    → es' ≡ insert_entry nat_eq es (get_or ts i other).0.0 (get_or ts i other).1 → IsPut all es (drop i ts) → IsPut all es' (drop (i + 1) ts)
+    → ((n : ℕ) → type_at es' n ≡ cond (nat_eq (get_or ts i other).0.0 n) (Some (get_or ts i other).1) (type_at es n))
+    → IsPut all es (drop i ts) → IsPut all es' (drop (i + 1) ts)
 one_put all ts i other es es' within is so_far n =
     let here : drop i ts ≡ get_or ts i other ∷ drop (i + 1) ts = rw add-one (drop-cons ts i other within) in
     so_far n ∙ ap (λ us. option_or (last_type (types_in us) n) (type_at es n)) here
-    ∙ type_over (last_type (types_in (drop (i + 1) ts)) n) es (get_or ts i other).0.0 n (get_or ts i other).1
-    ∙ ap (λ fs. option_or (last_type (types_in (drop (i + 1) ts)) n) (type_at fs n)) (sym is)
+    ∙ sym (value_over (last_type (types_in (drop (i + 1) ts)) n) (nat_eq (get_or ts i other).0.0 n) (get_or ts i other).1 (type_at es n))
+    ∙ ap (option_or (last_type (types_in (drop (i + 1) ts)) n)) (sym (is n))
 
 pub each_put : (all ts : List (NodeId × MetadataType)) (i : ℕ) (es : List (ℕ × MetadataType)) → length ts ≤ i → IsPut all es (drop i ts)
     → (n : ℕ) → type_at es n ≡ last_type (types_in all) n

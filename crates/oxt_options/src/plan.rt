@@ -1,7 +1,6 @@
 //! The plan: what the passes ask of nodes of the source, by their numbers.
-ghost use Rattle.std.specs.Prelude.{◌≡◌, ℕ, IfOk, None, OnErr, OnOk, nat_eq, option_map};
+ghost use Rattle.std.specs.Prelude.{◌≡◌, ℕ, IfOk, None, OnErr, OnOk, Some, cond, nat_eq, option_map};
 ghost use Rattle.std.specs.Map.{lookup, update_all};
-ghost use Rattle.indexmap.specs.IndexMap.{insert_entry};
 ghost use Rattle.oxt_names.specs.Constant.{constant_view};
 ghost use Rattle.oxt_options.specs.Facts.{Answers, HasTables, SameNodes, alias_at, constant_at, is_in, last_alias, last_constant, no_facts};
 ghost use Rattle.oxt_options.specs.Lists.{by_number, constants_in, facts_in, numbers_in, pairs_in, types_in};
@@ -10,11 +9,10 @@ ghost use Rattle.oxt_options.specs.Metadata.{last_type, type_at};
 use crate::lists::PlanLists;
 use crate::metadata::MetadataType;
 use crate::nodes::set_of;
-use indexmap::IndexMap;
 use oxt_names::constant::ConstantValue;
 use oxt_names::ids::{NodeId, OutOfMemory};
 use std::alloc::Global;
-use std::collections::HashSet;
+use std::collections::{HashMap, HashSet};
 use std::marker::Model;
 use std::mem;
 
@@ -24,11 +22,11 @@ pub struct Plan {
     kept: HashSet<u64>,
     first: HashSet<u64>,
     dropped: HashSet<u64>,
-    inlined: IndexMap<u64, ConstantValue>,
+    inlined: HashMap<u64, ConstantValue>,
     never_written: HashSet<u64>,
-    aliases: IndexMap<u64, u64>,
-    metadata: IndexMap<u64, MetadataType>,
-    written: IndexMap<u64, u64>,
+    aliases: HashMap<u64, u64>,
+    metadata: HashMap<u64, MetadataType>,
+    written: HashMap<u64, u64>,
 }
 
 impl Model for Plan {
@@ -49,11 +47,11 @@ impl Plan {
             kept: HashSet::new(alloc),
             first: HashSet::new(alloc),
             dropped: HashSet::new(alloc),
-            inlined: IndexMap::new(alloc),
+            inlined: HashMap::new(alloc),
             never_written: HashSet::new(alloc),
-            aliases: IndexMap::new(alloc),
-            metadata: IndexMap::new(alloc),
-            written: IndexMap::new(alloc),
+            aliases: HashMap::new(alloc),
+            metadata: HashMap::new(alloc),
+            written: HashMap::new(alloc),
         }
     }
 
@@ -103,11 +101,11 @@ impl Plan {
             kept,
             first,
             dropped,
-            inlined: IndexMap::new(alloc),
+            inlined: HashMap::new(alloc),
             never_written,
-            aliases: IndexMap::new(alloc),
-            metadata: IndexMap::new(alloc),
-            written: IndexMap::new(alloc),
+            aliases: HashMap::new(alloc),
+            metadata: HashMap::new(alloc),
+            written: HashMap::new(alloc),
         })
     }
 
@@ -257,7 +255,7 @@ fn sets_of(
 fn map_of(
     alloc: Global,
     constants: Vec<(NodeId, ConstantValue)>,
-) -> Result<IndexMap<u64, ConstantValue>, OutOfMemory>
+) -> Result<HashMap<u64, ConstantValue>, OutOfMemory>
     ensures { IfOk result (λ table. (n : ℕ) → lookup (nat_eq n) table.entries ≡ update_all nat_eq (λ _. None) (by_number constants.items) n) }
 {
     Ok(
@@ -272,7 +270,7 @@ fn map_of(
 fn classes_of(
     alloc: Global,
     aliases: Vec<(NodeId, NodeId)>,
-) -> Result<IndexMap<u64, u64>, OutOfMemory>
+) -> Result<HashMap<u64, u64>, OutOfMemory>
     ensures { IfOk result (λ table. (n : ℕ) → lookup (nat_eq n) table.entries ≡ update_all nat_eq (λ _. None) (pairs_in aliases.items) n) }
 {
     Ok(
@@ -288,10 +286,10 @@ fn classes_of(
 fn types_of(
     alloc: Global,
     types: &[(NodeId, MetadataType)],
-) -> Result<IndexMap<u64, MetadataType>, OutOfMemory>
+) -> Result<HashMap<u64, MetadataType>, OutOfMemory>
     ensures { IfOk result (λ table. (n : ℕ) → type_at table.entries n ≡ last_type (types_in types.now) n) }
 {
-    let mut table = IndexMap::new(alloc);
+    let mut table = HashMap::new(alloc);
     for noted in types {
         put(&mut table, noted.0.0, noted.1)?;
     }
@@ -300,11 +298,11 @@ fn types_of(
 
 /// Puts what is written under the number.
 fn put(
-    table: &mut IndexMap<u64, MetadataType>,
+    table: &mut HashMap<u64, MetadataType>,
     number: u64,
     written: MetadataType,
 ) -> Result<(), OutOfMemory>
-    ensures { OnOk result (table.new.entries ≡ insert_entry nat_eq table.old.entries number written) }
+    ensures { OnOk result ((n : ℕ) → type_at table.new.entries n ≡ cond (nat_eq number n) (Some written) (type_at table.old.entries n)) }
 {
     table.insert(number, written)?;
     Ok(())

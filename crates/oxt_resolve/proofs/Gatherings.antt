@@ -1,31 +1,21 @@
 -- Tables of what a list says of numbers.
-use Rattle.std.proofs.Common.{◌≡◌, ◌∙◌, refl, sym, ap, ℕ, ◌+◌, ◌<◌, ◌≤◌, List, [], length, drop, get_or, map, Bool, true, false, cond, Option, Some}
+use Rattle.std.proofs.Common.{◌≡◌, ◌∙◌, refl, sym, ap, ℕ, ◌+◌, ◌<◌, ◌≤◌, List, [], length, drop, get_or, map, Bool, true, false, cond, Some}
+use Rattle.std.specs.Cmp.{nat_eq_equiv}
 use Rattle.std.specs.Prelude.{◌==◌}
-use Rattle.indexmap.specs.IndexMap.{insert_entry}
 use Rattle.oxt_resolve.specs.Flags.{both, scope_flag}
 use Rattle.oxt_resolve.specs.Gathered.{at_number, gathered, or_this}
 use Rattle.oxt_resolve.specs.Marks.{Mark, flags_in, mark_view, mark_views, marked}
 use Rattle.oxt_resolve.specs.declared.marks.Mark.{Mark as Marked}
 use Rattle.oxt_resolve.specs.declared.marks.Marks.{Marks}
 use Rattle.oxt_names.specs.declared.flags.ScopeFlags.{ScopeFlags}
-use Rattle.std.proofs.lemmas.Bool.{eqb-true, eq-eqb}
-use Rattle.oxt_scopes.proofs.Tables.{look_insert}
+use Rattle.std.proofs.lemmas.Bool.{eqb-true}
 use Rattle.oxt_names.proofs.Lists.{drop_at, drop_end}
 
 -- ---- tables by numbers
 
-abbrev pub same_numbers : ℕ → ℕ → Bool
-same_numbers a b = a == b
-
-number_same : (t a b : ℕ) → (t == a) ≡ true → (t == b) ≡ true → (a == b) ≡ true
-number_same t a b h g = eq-eqb a b (sym (eqb-true t a h) ∙ eqb-true t b g)
-
-number_swap : (t a b : ℕ) → (a == b) ≡ true → (t == b) ≡ (t == a)
-number_swap t a b h = ap (λ x. t == x) (sym (eqb-true a b h))
-
 -- what stands at a number once something is put there
-pub at_put : {V : Type 0} (q k : ℕ) (v : V) (es new : List (ℕ × V)) → new ≡ insert_entry same_numbers es k v → at_number q new ≡ cond (q == k) (Some v) (at_number q es)
-at_put q k v es new is = ap (at_number q) is ∙ look_insert same_numbers (λ x. q == x) k v (λ x h. number_swap q k x h) (λ x h g. number_same q k x h g) es
+pub at_put : {V : Type 0} (q k : ℕ) (v : V) (es new : List (ℕ × V)) → at_number q new ≡ cond (k == q) (Some v) (at_number q es) → at_number q new ≡ cond (q == k) (Some v) (at_number q es)
+at_put q k v es new is = is ∙ ap (λ b. cond b (Some v) (at_number q es)) (nat_eq_equiv.symm k q)
 
 -- ---- lists
 

@@ -1,44 +1,51 @@
 -- The first nodes that declare spellings, in the table.
-use denote.Ref.{Bor}
 use Rattle.std.proofs.Common.{◌≡◌, ◌∙◌, refl, sym, ap, ℕ, List, Bool, true, false, ◌&&◌, cond, Option, None, Some, true≢false}
-use Rattle.std.proofs.lemmas.Bool.{eqb-true, eq-eqb}
+use Rattle.std.proofs.lemmas.Bool.{eqb-true}
 use Rattle.std.specs.Cmp.Lexicographic.{bytes_decides}
 use Rattle.std.specs.Prelude.{◌==◌}
 use Rattle.std.specs.Str.{bytes_eq}
-use Rattle.indexmap.specs.IndexMap.{insert_entry}
+use Rattle.std.specs.Map.{lookup, AreApart, IsKeyTest, KeepsOthers}
 use Rattle.oxt_declares.specs.Declarations.{Declared}
 use Rattle.oxt_resolve.specs.Groups.{First, Key, is_there, node_at, noted}
-use Rattle.oxt_scopes.proofs.Tables.{look_insert}
 use Rattle.oxt_scopes.specs.Scopes.{or_else}
 
 both_of : (b c : Bool) → (b && c) ≡ true → (b ≡ true) × (c ≡ true)
 both_of true c h = (refl, h)
 both_of false c h = absurd (true≢false (sym h))
 
-both_hold : (b c : Bool) → b ≡ true → c ≡ true → (b && c) ≡ true
-both_hold b c h g = ap (λ x. x && c) h ∙ g
-
 abbrev pub same_keys : Key → Key → Bool
 same_keys x y = (x.0 == y.0) && bytes_eq x.1.now y.1.now
 
+-- what another test finds stays
+others : (k : Key) (es new : List (Key × ℕ)) → KeepsOthers same_keys (same_keys k) es new → (other : Key → Bool) → IsKeyTest same_keys other → AreApart (same_keys k) other → lookup other new ≡ lookup other es
+unfolding KeepsOthers
+others k es new h = h
+
 -- what stands there once a node is put
-pub key_put : (n : ℕ) (t : List ℕ) (k : Key) (v : ℕ) (es new : List (Key × ℕ)) → new ≡ insert_entry same_keys es k v → node_at n t new ≡ cond (is_there n t k.0 k.1.now) (Some v) (node_at n t es)
-key_put n t k v es new is = ap (node_at n t) is ∙ look_insert same_keys (λ x. is_there n t x.0 x.1.now) k v same apart es
+pub key_put : (n : ℕ) (t : List ℕ) (k : Key) (v : ℕ) (es new : List (Key × ℕ)) → lookup (same_keys k) new ≡ Some v → KeepsOthers same_keys (same_keys k) es new
+    → node_at n t new ≡ cond (is_there n t k.0 k.1.now) (Some v) (node_at n t es)
+key_put n t k v es new put stay = by (is_there n t k.0 k.1.now) refl
   where
-    same : (x : Key) → same_keys k x ≡ true → is_there n t x.0 x.1.now ≡ is_there n t k.0 k.1.now
-    same x h =
+    test : Key → Bool
+    test x = is_there n t x.0 x.1.now
+
+    one : (x y : Key) → test x ≡ true → test y ≡ same_keys x y
+    one x y h =
+        let both = both_of (n == x.0) (bytes_eq t x.1.now) h in
+        let number = eqb-true n x.0 both.0 in
+        let name = (bytes_decides t x.1.now).0 both.1 in
+        λ j. is_there (number j) (name j) y.0 y.1.now
+
+    apart : test k ≡ false → (x : Key) → same_keys k x ≡ true → test x ≡ false
+    apart other x h =
         let both = both_of (k.0 == x.0) (bytes_eq k.1.now x.1.now) h in
         let number = sym (eqb-true k.0 x.0 both.0) in
         let name = sym ((bytes_decides k.1.now x.1.now).0 both.1) in
-        λ j. is_there n t (number j) (name j)
+        (λ j. is_there n t (number j) (name j)) ∙ other
 
-    apart : (x : Key) → is_there n t k.0 k.1.now ≡ true → is_there n t x.0 x.1.now ≡ true → same_keys k x ≡ true
-    apart x h g =
-        let p = both_of (n == k.0) (bytes_eq t k.1.now) h in
-        let q = both_of (n == x.0) (bytes_eq t x.1.now) g in
-        both_hold (k.0 == x.0) (bytes_eq k.1.now x.1.now)
-        (eq-eqb k.0 x.0 (sym (eqb-true n k.0 p.0) ∙ eqb-true n x.0 q.0))
-        ((bytes_decides k.1.now x.1.now).1 (sym ((bytes_decides t k.1.now).0 p.1) ∙ (bytes_decides t x.1.now).0 q.1))
+    by : (b : Bool) → test k ≡ b → lookup test new ≡ cond b (Some v) (lookup test es)
+    by true e = ap (λ f. lookup f new) (λ j x. one k x e j) ∙ put
+    by false e = others k es new stay test one (apart e)
 
 -- the same spelling in the same scope
 there : (f : First) (n : ℕ) (t : List ℕ) (m : ℕ) (u : List ℕ) → is_there n t m u ≡ true → f n t ≡ f m u

@@ -1,10 +1,11 @@
 -- The groups that the names of a tree mean and declare. A group is the declarations of a spelling in one scope; it goes by the
 -- number of the first node that declares it.
 use denote.Ref.{Bor}
-use Rattle.std.specs.Prelude.{ℕ, Bool, List, [], fold, ◌&&◌, ◌==◌, if◌then◌else◌, nat_eq, Option, None, Some}
+use Rattle.std.specs.Prelude.{ℕ, Bool, List, [], fold, ◌&&◌, ◌==◌, if◌then◌else◌, Option, None, Some}
 use Rattle.std.specs.Map.{lookup}
 use Rattle.std.specs.Str.{bytes_eq}
-use Rattle.indexmap.specs.IndexMap.{insert_entry}
+use Rattle.std.specs.BTreeMap.{insert_entry}
+use Rattle.std.specs.Ordering.{nat_cmp}
 use Rattle.oxt_declares.specs.Declarations.{Declared}
 use Rattle.oxt_facts.specs.Owners.{Owners}
 use Rattle.oxt_resolve.specs.declared.firsts.Firsts.{Firsts}
@@ -39,7 +40,7 @@ first_of xs = all_noted xs (λ n t. None)
 -- the groups with that of the node of that number, if it has one
 abbrev pub grouped : ℕ → Option ℕ → Owners → Owners
 grouped i None os = os
-grouped i (Some g) os = insert_entry nat_eq os i g
+grouped i (Some g) os = insert_entry nat_cmp os i g
 
 -- a name that the scope of that number declares has the group of its spelling there
 abbrev pub with_declared : First → ℕ → Owners → Declared → Owners

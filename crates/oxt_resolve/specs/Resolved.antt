@@ -1,7 +1,8 @@
 -- The table of a document's scopes, symbols and references.
 use Rattle.std.specs.Prelude.{ℕ, Bool, List, [], ◌∷◌, ◌++◌, length, fold, Option, None, Some, nat_eq, slice_get}
+use Rattle.std.specs.BTreeMap.{insert_entry}
 use Rattle.std.specs.Map.{lookup}
-use Rattle.indexmap.specs.IndexMap.{insert_entry}
+use Rattle.std.specs.Ordering.{nat_cmp}
 use Rattle.oxt_tree.specs.Doc.{Doc}
 use Rattle.oxt_names.specs.Made.{all_added}
 use Rattle.oxt_resolve.specs.Names.{names}
@@ -70,7 +71,7 @@ again r y = record y { flags = joined y.flags r.flags; declarations = y.declarat
 
 -- the table with a declaration more of that symbol
 abbrev pub again_in : SymbolId → Redeclaration → Scoped → Scoped
-again_in i r s = record s { symbols = changed_at i.0 (again r) s.symbols; declared = insert_entry nat_eq s.declared r.node.0 i }
+again_in i r s = record s { symbols = changed_at i.0 (again r) s.symbols; declared = insert_entry nat_cmp s.declared r.node.0 i }
 
 -- the table with a declaration more of the name, of the symbol that the scope binds it to or of a new one
 abbrev pub declared_as : ScopeId → List ℕ → Redeclaration → Option SymbolId → Scoped → Scoped

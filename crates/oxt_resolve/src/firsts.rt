@@ -5,17 +5,17 @@ ghost use Rattle.oxt_resolve.specs.Groups.{all_noted, first_at, first_of, is_the
 ghost use Rattle.oxt_scopes.specs.Stack.{number_at};
 ghost use Rattle.oxt_scopes.specs.Views.{opened_view, opened_views};
 
-use indexmap::IndexMap;
 use oxt_declares::declaration::Declaration;
 use oxt_names::ids::{NodeId, OutOfMemory};
 use oxt_scopes::owners::OwnedName;
 use oxt_scopes::scopes::OpenedScope;
 use std::alloc::Global;
+use std::collections::HashMap;
 
 /// The number of the first node that declares each spelling in each scope.
 #[derive(Drop)]
 pub struct Firsts<'a> {
-    nodes: IndexMap<(u64, &'a str), u64>,
+    nodes: HashMap<(u64, &'a str), u64>,
 }
 
 impl<'a> Firsts<'a> {
@@ -28,7 +28,7 @@ impl<'a> Firsts<'a> {
         ensures { IfOk result (λ firsts. first_at firsts ≡ first_of (opened_views scopes.now)) }
     {
         let mut firsts = Firsts {
-            nodes: IndexMap::new(alloc),
+            nodes: HashMap::new(alloc),
         };
         firsts.note_all(scopes)?;
         Ok(firsts)

@@ -8,7 +8,6 @@ ghost use Rattle.oxt_resolve.specs.Gathered.{at_number};
 ghost use Rattle.oxt_resolve.specs.Marks.{accessor_flags, accessor_mark, each_marks, flags_in, has_function, has_use_strict, is_use_strict, mark_of, mark_views, marked, marks, marks_of, own_marks, says_strict, strict_mark};
 
 use crate::flags::{both, no_flags};
-use indexmap::IndexMap;
 use oxt_declares::names::field_within;
 use oxt_declares::role::Role;
 use oxt_declares::role_of::role_of;
@@ -18,6 +17,7 @@ use oxt_names::flags::ScopeFlags;
 use oxt_names::ids::{NodeId, OutOfMemory};
 use oxt_tree::tree::{Node, Part};
 use std::alloc::Global;
+use std::collections::HashMap;
 
 /// That the scope of a node has flags besides those of its kind.
 #[derive(Clone, Copy)]
@@ -31,7 +31,7 @@ pub struct Mark {
 /// The flags that nodes give to scopes, by the numbers of the nodes that open these.
 #[derive(Drop)]
 pub struct Marks {
-    flags: IndexMap<u64, ScopeFlags>,
+    flags: HashMap<u64, ScopeFlags>,
 }
 
 impl Marks {
@@ -53,7 +53,7 @@ impl Marks {
         ensures { IfOk result (λ m. flags_in m ≡ marked (mark_views marks.now)) }
     {
         let mut table = Marks {
-            flags: IndexMap::new(alloc),
+            flags: HashMap::new(alloc),
         };
         for mark in marks {
             table.put(mark)?;
@@ -83,11 +83,10 @@ impl Marks {
 }
 
 /// Puts the flags at that number.
-#[tactic(auto, using(crate::proofs::Gatherings::at_put))]
 fn put_flags(
     node: NodeId,
     flags: ScopeFlags,
-    table: &mut IndexMap<u64, ScopeFlags>,
+    table: &mut HashMap<u64, ScopeFlags>,
 ) -> Result<(), OutOfMemory>
     ensures { OnOk result ((n : ℕ) → at_number n table.new.entries
         ≡ (if n == node.0 then Some flags else at_number n table.old.entries)) }

@@ -1,9 +1,11 @@
 //! The TypeScript passes as one.
 ghost use Rattle.std.specs.Prelude.{OnOk};
-ghost use Rattle.oxt_pass.specs.Level.{IsLevel, IsOpenAt};
+ghost use Rattle.oxt_ctx.specs.Level.{IsLevel, IsOpenAt};
 
 use oxt_class::pass::ClassFields;
 use oxt_ctx::context::TraverseCtx;
+use oxt_ctx::hook::Hook;
+use oxt_ctx::pass::Pass;
 use oxt_decor::pass::Decorator;
 use oxt_erase::extensions::TypeScriptRewriteExtensions;
 use oxt_erase::module::TypeScriptModule;
@@ -13,8 +15,6 @@ use oxt_lower::pass::TypeScriptEnum;
 use oxt_modules::retain::retain_modules;
 use oxt_names::ids::OutOfMemory;
 use oxt_options::TransformOptions;
-use oxt_pass::hook::Hook;
-use oxt_pass::pass::Pass;
 use oxt_traverse::both::Both;
 use oxt_traverse::dispatch::{run_at_node, run_at_statements};
 use oxt_tree::tree::{Node, Part};

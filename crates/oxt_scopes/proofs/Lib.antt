@@ -1,6 +1,5 @@
 pub mod Appends
 pub mod Bare
-pub mod Lookups
 pub mod Numbers
 pub mod OwnerLoops
 pub mod ScopeLoops

@@ -2,9 +2,9 @@
 use denote.Ref.{Bor}
 use Rattle.std.proofs.Common.{◌≡◌, ◌∙◌, refl, sym, ap, ℕ, ◌+◌, ◌<◌, ◌≤◌, List, [], ◌∷◌, length, drop, get_or, arith, Bool, true, false, ◌&&◌, ◌||◌, cond, if◌then◌else◌, Option, Some, true≢false}
 use Rattle.std.specs.Cmp.Lexicographic.{bytes_decides}
-use Rattle.std.specs.Map.{lookup}
+use Rattle.std.specs.HashMap.{HashMap, Updates}
+use Rattle.std.specs.Map.{IsKeyTest, KeepsOthers, lookup}
 use Rattle.std.specs.Str.{bytes_eq}
-use Rattle.indexmap.specs.IndexMap.{insert_entry}
 use Rattle.oxt_names.proofs.Lists.{drop_at, drop_end}
 use Rattle.oxt_names.specs.declared.ids.NodeId.{NodeId}
 use Rattle.oxt_declares.specs.Declarations.{Declared, declared_view, declared_views, has, is_seen, shows}
@@ -17,28 +17,33 @@ use Rattle.oxt_declares.specs.declared.declaration.Sort.{Sort}
 use Rattle.oxt_scopes.specs.declared.scope.Scope.{Scope}
 use Rattle.oxt_scopes.specs.declared.scope.Seen.{Seen}
 
-module _ {K V : Type 0} (eq : K → K → Bool) (test : K → Bool) (k : K) (v : V) where
-  one_entry : (b c d : Bool) (w : V) (rest put : Option V) → (b ≡ true → c ≡ d) → (d ≡ true → c ≡ true → b ≡ true) → put ≡ cond d (Some v) rest
-      → cond b (cond c (Some v) rest) (cond c (Some w) put) ≡ cond d (Some v) (cond c (Some w) rest)
-  one_entry true true true w rest put p q h = refl
-  one_entry true true false w rest put p q h = absurd (true≢false (p refl))
-  one_entry true false true w rest put p q h = absurd (true≢false (sym (p refl)))
-  one_entry true false false w rest put p q h = refl
-  one_entry false true true w rest put p q h = absurd (true≢false (sym (q refl refl)))
-  one_entry false true false w rest put p q h = refl
-  one_entry false false true w rest put p q h = h
-  one_entry false false false w rest put p q h = h
+agree : (b c : Bool) → (c ≡ true → b ≡ true) → (b ≡ true → c ≡ true) → b ≡ c
+agree true true h g = refl
+agree true false h g = sym (g refl)
+agree false true h g = h refl
+agree false false h g = refl
 
-  chosen : (b : Bool) (e : K × V) (es put : List (K × V)) → lookup test (cond b ((e.0, v) ∷ es) (e ∷ put)) ≡ cond b (cond (test e.0) (Some v) (lookup test es)) (cond (test e.0) (Some e.1) (lookup test put))
-  chosen true e es put = refl
-  chosen false e es put = refl
+-- What is equal to a key passes the test as the key does, and two keys that pass it are equal.
+module _ {K : Type 0} (eq : K → K → Bool) (test : K → Bool) (same : (k x : K) → eq k x ≡ true → test x ≡ test k) (apart : (k x : K) → test k ≡ true → test x ≡ true → eq k x ≡ true) where
+  one_key : IsKeyTest eq test
+  one_key x y h = agree (test y) (eq x y) (λ g. same x y g ∙ h) (λ g. apart x y h g)
 
-  -- What is found once an entry is put: its value, for a key that it has.
-  pub look_insert : ((x : K) → eq k x ≡ true → test x ≡ test k) → ((x : K) → test k ≡ true → test x ≡ true → eq k x ≡ true) → (es : List (K × V)) → lookup test (insert_entry eq es k v) ≡ cond (test k) (Some v) (lookup test es)
-  look_insert same apart [] = refl
-  look_insert same apart (e ∷ es) =
-      chosen (eq k e.0) e es (insert_entry eq es k v)
-      ∙ one_entry (eq k e.0) (test e.0) (test k) e.1 (lookup test es) (lookup test (insert_entry eq es k v)) (same e.0) (apart e.0) (look_insert same apart es)
+  module _ {V : Type 0} (k : K) where
+    by_key : test k ≡ true → (es : List (K × V)) → lookup test es ≡ lookup (eq k) es
+    by_key h [] = refl
+    by_key h (e ∷ es) = ap (λ b. cond b (Some e.1) (lookup test es)) (one_key k e.0 h) ∙ ap (cond (eq k e.0) (Some e.1)) (by_key h es)
+
+    others : test k ≡ false → (old new : List (K × V)) → KeepsOthers eq (eq k) old new → lookup test new ≡ lookup test old
+    unfolding KeepsOthers
+    others h old new keeps = keeps test one_key (λ x g. same k x g ∙ h)
+
+    -- What is found once a value is put at the key: the value, if the key passes.
+    pub look_put : {S : Type 0} (v : V) (old new : HashMap K V S) → Updates eq old new k (Some v) → lookup test new.entries ≡ cond (test k) (Some v) (lookup test old.entries)
+    look_put v old new put = by (test k) refl
+      where
+        by : (b : Bool) → test k ≡ b → lookup test new.entries ≡ cond b (Some v) (lookup test old.entries)
+        by true h = by_key h new.entries ∙ put.1
+        by false h = others h old.entries new.entries put.3
 
 -- two texts that are equal to one are equal
 bytes_same : (t a b : List ℕ) → bytes_eq t a ≡ true → bytes_eq t b ≡ true → bytes_eq a b ≡ true
@@ -50,8 +55,12 @@ bytes_swap t a b h = ap (bytes_eq t) (sym ((bytes_decides a b).0 h))
 abbrev pub same_names : Bor (List ℕ) → Bor (List ℕ) → Bool
 same_names x y = bytes_eq x.now y.now
 
-pub name_put : (t : List ℕ) (k : Bor (List ℕ)) (v : Seen) (es : List (Bor (List ℕ) × Seen)) → seen_at t (insert_entry same_names es k v) ≡ cond (bytes_eq t k.now) (Some v) (seen_at t es)
-name_put t k v es = look_insert same_names (λ x. bytes_eq t x.now) k v (λ x h. bytes_swap t k.now x.now h) (λ x h g. bytes_same t k.now x.now h g) es
+-- names, as a table has them
+abbrev pub Names : Type 0 → Type 0
+Names S = HashMap (Bor (List ℕ)) Seen S
+
+pub name_put : {S : Type 0} (t : List ℕ) (k : Bor (List ℕ)) (v : Seen) (old new : Names S) → Updates same_names old new k (Some v) → seen_at t new.entries ≡ cond (bytes_eq t k.now) (Some v) (seen_at t old.entries)
+name_put t k v old new put = look_put same_names (λ x. bytes_eq t x.now) (λ j x h. bytes_swap t j.now x.now h) (λ j x h g. bytes_same t j.now x.now h g) k v old new put
 
 -- a name that is declared once more
 abbrev pub Adds : Sort → List ℕ → List (Bor (List ℕ) × Seen) → Seen → Type 0
@@ -62,12 +71,12 @@ at_name sight.Value o t es v h = h.0
 at_name sight.Type o t es v h = refl
 at_name sight.TypeParameter o t es v h = h.1
 
-pub name_added : (o : Sort) (k : Bor (List ℕ)) (v : Seen) (old new : List (Bor (List ℕ) × Seen)) → Adds o k.now old v → new ≡ insert_entry same_names old k v → (s : Sight) (t : List ℕ)
-    → shows_seen s (seen_at t new) ≡ ((bytes_eq t k.now && shows s o) || shows_seen s (seen_at t old))
-name_added o k v old new adds put s t = ap (λ es. shows_seen s (seen_at t es)) put ∙ ap (shows_seen s) (name_put t k v old) ∙ step (bytes_eq t k.now) refl
+pub name_added : {S : Type 0} (o : Sort) (k : Bor (List ℕ)) (v : Seen) (old new : Names S) → Adds o k.now old.entries v → Updates same_names old new k (Some v) → (s : Sight) (t : List ℕ)
+    → shows_seen s (seen_at t new.entries) ≡ ((bytes_eq t k.now && shows s o) || shows_seen s (seen_at t old.entries))
+name_added o k v old new adds put s t = ap (shows_seen s) (name_put t k v old new put) ∙ step (bytes_eq t k.now) refl
   where
-    step : (b : Bool) → bytes_eq t k.now ≡ b → shows_seen s (cond b (Some v) (seen_at t old)) ≡ ((b && shows s o) || shows_seen s (seen_at t old))
-    step true e = at_name s o k.now old v adds ∙ ap (λ u. shows s o || shows_seen s (seen_at u old)) (sym ((bytes_decides t k.now).0 e))
+    step : (b : Bool) → bytes_eq t k.now ≡ b → shows_seen s (cond b (Some v) (seen_at t old.entries)) ≡ ((b && shows s o) || shows_seen s (seen_at t old.entries))
+    step true e = at_name s o k.now old.entries v adds ∙ ap (λ u. shows s o || shows_seen s (seen_at u old.entries)) (sym ((bytes_decides t k.now).0 e))
     step false e = refl
 
 -- names, from the last to the first
@@ -104,23 +113,32 @@ number_cond : (b : Bool) (n : NodeId) (o : Option NodeId) → number_at (cond b 
 number_cond true n o = refl
 number_cond false n o = refl
 
-pub pair_put : (e t : List ℕ) (k : Pair) (n : NodeId) (es : List (Pair × NodeId)) → block_at e t (insert_entry same_pairs es k n) ≡ cond (bytes_eq e k.0.now && bytes_eq t k.1.now) (Some n.0) (block_at e t es)
-pair_put e t k n es =
-    ap number_at (look_insert same_pairs (λ x. bytes_eq e x.0.now && bytes_eq t x.1.now) k n same apart es)
-    ∙ number_cond (bytes_eq e k.0.now && bytes_eq t k.1.now) n (lookup (λ x. bytes_eq e x.0.now && bytes_eq t x.1.now) es)
-  where
-    same : (x : Pair) → same_pairs k x ≡ true → (bytes_eq e x.0.now && bytes_eq t x.1.now) ≡ (bytes_eq e k.0.now && bytes_eq t k.1.now)
-    same x h =
-        let both = and_both (bytes_eq k.0.now x.0.now) (bytes_eq k.1.now x.1.now) h in
-        let first = bytes_swap e k.0.now x.0.now both.0 in
-        let second = bytes_swap t k.1.now x.1.now both.1 in
-        λ j. first j && second j
+-- the test of a pair of texts
+abbrev is_pair : List ℕ → List ℕ → Pair → Bool
+is_pair e t x = bytes_eq e x.0.now && bytes_eq t x.1.now
 
-    apart : (x : Pair) → (bytes_eq e k.0.now && bytes_eq t k.1.now) ≡ true → (bytes_eq e x.0.now && bytes_eq t x.1.now) ≡ true → same_pairs k x ≡ true
-    apart x h g =
-        let p = and_both (bytes_eq e k.0.now) (bytes_eq t k.1.now) h in
-        let q = and_both (bytes_eq e x.0.now) (bytes_eq t x.1.now) g in
-        both_and (bytes_eq k.0.now x.0.now) (bytes_eq k.1.now x.1.now) (bytes_same e k.0.now x.0.now p.0 q.0) (bytes_same t k.1.now x.1.now p.1 q.1)
+pair_swap : (e t : List ℕ) (k x : Pair) → same_pairs k x ≡ true → is_pair e t x ≡ is_pair e t k
+pair_swap e t k x h =
+    let both = and_both (bytes_eq k.0.now x.0.now) (bytes_eq k.1.now x.1.now) h in
+    let first = bytes_swap e k.0.now x.0.now both.0 in
+    let second = bytes_swap t k.1.now x.1.now both.1 in
+    λ j. first j && second j
+
+pair_same : (e t : List ℕ) (k x : Pair) → is_pair e t k ≡ true → is_pair e t x ≡ true → same_pairs k x ≡ true
+pair_same e t k x h g =
+    let p = and_both (bytes_eq e k.0.now) (bytes_eq t k.1.now) h in
+    let q = and_both (bytes_eq e x.0.now) (bytes_eq t x.1.now) g in
+    both_and (bytes_eq k.0.now x.0.now) (bytes_eq k.1.now x.1.now) (bytes_same e k.0.now x.0.now p.0 q.0) (bytes_same t k.1.now x.1.now p.1 q.1)
+
+-- blocks, as a table has them
+abbrev pub Blocks : Type 0 → Type 0
+Blocks S = HashMap Pair NodeId S
+
+pub pair_put : {S : Type 0} (e t : List ℕ) (k : Pair) (n : NodeId) (old new : Blocks S) → Updates same_pairs old new k (Some n)
+    → block_at e t new.entries ≡ cond (bytes_eq e k.0.now && bytes_eq t k.1.now) (Some n.0) (block_at e t old.entries)
+pair_put e t k n old new put =
+    ap number_at (look_put same_pairs (is_pair e t) (pair_swap e t) (pair_same e t) k n old new put)
+    ∙ number_cond (is_pair e t k) n (lookup (is_pair e t) old.entries)
 
 -- the members from a place on have been put
 abbrev pub MembersFrom : ℕ → List Declaration → List ℕ → ℕ → List (Pair × NodeId) → List (Pair × NodeId) → Type 0
@@ -137,10 +155,10 @@ one_member false true c n old = refl
 one_member false false true n old = refl
 one_member false false false n old = refl
 
-pub members_more : (ds : List Declaration) (i j : ℕ) (d : Declaration) (m : Bor (List ℕ)) (n : NodeId) (old before after : List (Pair × NodeId)) → i ≡ j + 1 → j < length ds → d ≡ get_or ds j d
-    → after ≡ insert_entry same_pairs before (m, d.name) n → MembersFrom i ds m.now n.0 old before → MembersFrom j ds m.now n.0 old after
+pub members_more : {S : Type 0} (ds : List Declaration) (i j : ℕ) (d : Declaration) (m : Bor (List ℕ)) (n : NodeId) (old : List (Pair × NodeId)) (before after : Blocks S) → i ≡ j + 1 → j < length ds → d ≡ get_or ds j d
+    → Updates same_pairs before after (m, d.name) (Some n) → MembersFrom i ds m.now n.0 old before.entries → MembersFrom j ds m.now n.0 old after.entries
 members_more ds i j d m n old before after next within at put so_far e t =
-    ap (block_at e t) put ∙ pair_put e t (m, d.name) n before
+    pair_put e t (m, d.name) n before after put
     ∙ ap (cond (bytes_eq e m.now && bytes_eq t d.name.now) (Some n.0)) (so_far e t ∙ ap (λ k. if has_name t (declared_views (drop k ds)) && bytes_eq e m.now then Some n.0 else block_at e t old) next)
     ∙ one_member (bytes_eq t d.name.now) (bytes_eq e m.now) (has_name t (declared_views (drop (j + 1) ds))) n.0 (block_at e t old)
     ∙ sym (ap (λ xs. if has_name t (declared_views xs) && bytes_eq e m.now then Some n.0 else block_at e t old) (drop_at ds j d within at))

@@ -18,11 +18,6 @@ number_at (Some i) = Some i.0
 abbrev pub seen_at : List ℕ → List (Bor (List ℕ) × Seen) → Option Seen
 seen_at t es = lookup (λ k. bytes_eq t k.now) es
 
--- how an entry declares the spelling, if it is one of that spelling
-abbrev pub seen_as : List ℕ → Option (Bor (List ℕ) × Seen) → Option Seen
-seen_as t None = None
-seen_as t (Some e) = if bytes_eq t e.0.now then Some e.1 else None
-
 -- a spelling that is declared so is seen so
 abbrev pub shows_seen : Sight → Option Seen → Bool
 shows_seen s None = false

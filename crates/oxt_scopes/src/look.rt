@@ -1,19 +1,18 @@
 //! What names mean.
-ghost use Rattle.std.specs.Prelude.{◌≡◌, option_map};
-ghost use Rattle.std.specs.Map.Iter.{deref_pair};
+ghost use Rattle.std.specs.Prelude.{◌≡◌};
 ghost use Rattle.oxt_scopes.specs.Owners.{meaning};
 ghost use Rattle.oxt_scopes.specs.Scopes.{beside, look, look_in_signature};
-ghost use Rattle.oxt_scopes.specs.Stack.{block_at, level_of, levels, name_in, number_at, seen_as, seen_at, shows_seen};
+ghost use Rattle.oxt_scopes.specs.Stack.{block_at, level_of, levels, name_in, number_at, seen_at, shows_seen};
 
 use crate::scope::{Scope, Seen};
 use crate::way::Way;
-use indexmap::IndexMap;
 use oxt_declares::declaration::Sight;
 use oxt_names::ids::NodeId;
+use std::collections::HashMap;
 
 /// How many names a scope has at most that are compared one after the other; of more, the name is hashed, which costs as much
-/// as some eight comparisons.
-const FEW_NAMES: usize = 8;
+/// as some five comparisons.
+const FEW_NAMES: usize = 4;
 
 /// What the name means that is read that way in the last of the scopes: the number of the node that
 /// opens the scope of its group; none where it is free.
@@ -93,7 +92,7 @@ impl<'a> Scope<'a> {
 }
 
 /// How the name is declared by that table.
-fn seen_in(names: &IndexMap<&str, Seen>, name: &str) -> Option<Seen>
+fn seen_in(names: &HashMap<&str, Seen>, name: &str) -> Option<Seen>
     ensures { result ≡ seen_at name.now names.now.entries }
 {
     if names.len() <= FEW_NAMES {
@@ -104,27 +103,15 @@ fn seen_in(names: &IndexMap<&str, Seen>, name: &str) -> Option<Seen>
 }
 
 /// The same, by one entry after the other.
-#[tactic(auto, using(crate::proofs::Lookups::seen_steps))]
-fn seen_among(names: &IndexMap<&str, Seen>, name: &str) -> Option<Seen>
+fn seen_among(names: &HashMap<&str, Seen>, name: &str) -> Option<Seen>
     ensures { result ≡ seen_at name.now names.now.entries }
 {
-    for i in 0..names.len() {
-        let seen = seen_as(names.get_index(i), name);
-        if seen.is_some() {
-            return seen;
+    for (own, seen) in names {
+        if name == *own {
+            return Some(*seen);
         }
     }
     None
-}
-
-/// How the entry declares the name, if it is one of that name.
-fn seen_as(pair: Option<(&&str, &Seen)>, name: &str) -> Option<Seen>
-    ensures { result ≡ seen_as name.now (option_map deref_pair pair.entry) }
-{
-    match pair {
-        Some((own, seen)) => { if name == *own { Some(*seen) } else { None } }
-        None => None,
-    }
 }
 
 /// The body of such a block in the last of the scopes.

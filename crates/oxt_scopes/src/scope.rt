@@ -10,7 +10,6 @@ ghost use Rattle.oxt_scopes.specs.Scopes.{Level, block_in, has_name, is_block_of
 ghost use Rattle.oxt_scopes.specs.Stack.{block_at, level_of, name_in, seen_at, shows_seen};
 ghost use Rattle.oxt_declares.specs.declared.declaration.Sight.{Sight as Looks};
 
-use indexmap::IndexMap;
 use oxt_declares::declaration::{Declaration, Sight, Sort};
 use oxt_declares::declares::{push_body_members, push_declared, text_of};
 use oxt_declares::names::field_within;
@@ -19,6 +18,7 @@ use oxt_grammar::field::Field;
 use oxt_names::ids::{NodeId, OutOfMemory};
 use oxt_tree::tree::{Node, Part};
 use std::alloc::Global;
+use std::collections::HashMap;
 
 /// How a name is declared in a scope.
 #[derive(Clone, Copy)]
@@ -35,9 +35,9 @@ pub struct Scope<'a> {
     /// The number of the node that opens it; that of its body, of a block of an enum.
     pub number: NodeId,
     /// How each name is declared.
-    pub names: IndexMap<&'a str, Seen>,
+    pub names: HashMap<&'a str, Seen>,
     /// The bodies of the blocks of enums, by the names of the enum and of a member.
-    pub blocks: IndexMap<(&'a str, &'a str), NodeId>,
+    pub blocks: HashMap<(&'a str, &'a str), NodeId>,
     /// The enum of which it is a block.
     pub enum_name: Option<&'a str>,
 }
@@ -54,7 +54,6 @@ pub fn scope_of<'a>(alloc: Global, role: Role, node: &'a Node) -> Result<Scope<'
 }
 
 /// The scope that a node of that role opens, in which these are declared.
-#[tactic(auto, using(crate::proofs::Tables::same_level))]
 pub(crate) fn scope_by<'a>(
     alloc: Global,
     role: Role,
@@ -108,10 +107,10 @@ fn enum_of<'a>(role: Role, node: &'a Node) -> Option<&'a str>
 fn names_of<'a>(
     alloc: Global,
     declarations: &[Declaration<'a>],
-) -> Result<IndexMap<&'a str, Seen>, OutOfMemory>
+) -> Result<HashMap<&'a str, Seen>, OutOfMemory>
     ensures { IfOk result (λ m. (s : Looks) (t : List ℕ) → shows_seen s (seen_at t m.entries) ≡ has s t (declared_views declarations.now)) }
 {
-    let mut names = IndexMap::new(alloc);
+    let mut names = HashMap::new(alloc);
     let mut i = declarations.len();
     while i > 0 {
         i -= 1;
@@ -123,7 +122,7 @@ fn names_of<'a>(
 /// Adds a declaration of a name.
 fn add_name<'a>(
     declaration: &Declaration<'a>,
-    names: &mut IndexMap<&'a str, Seen>,
+    names: &mut HashMap<&'a str, Seen>,
 ) -> Result<(), OutOfMemory>
     ensures { OnOk result ((s : Looks) (t : List ℕ) → shows_seen s (seen_at t names.new.entries)
         ≡ (is_seen s t (declared_view declaration.now) || shows_seen s (seen_at t names.old.entries))) }
@@ -147,7 +146,7 @@ fn seen_with(sort: Sort, before: Seen) -> Seen
 }
 
 /// How the name is declared so far.
-fn seen_before<'a>(names: &IndexMap<&'a str, Seen>, name: &'a str) -> Seen
+fn seen_before<'a>(names: &HashMap<&'a str, Seen>, name: &'a str) -> Seen
     ensures value { result.value ≡ shows_seen Sight.Value (seen_at name.now names.now.entries) }
     ensures type_parameter { result.type_parameter ≡ shows_seen Sight.TypeParameter (seen_at name.now names.now.entries) }
 {
@@ -164,10 +163,10 @@ fn seen_before<'a>(names: &IndexMap<&'a str, Seen>, name: &'a str) -> Seen
 fn blocks_of<'a>(
     alloc: Global,
     declarations: &[Declaration<'a>],
-) -> Result<IndexMap<(&'a str, &'a str), NodeId>, OutOfMemory>
+) -> Result<HashMap<(&'a str, &'a str), NodeId>, OutOfMemory>
     ensures { IfOk result (λ m. (e t : List ℕ) → block_at e t m.entries ≡ block_in e t (declared_views declarations.now)) }
 {
-    let mut blocks = IndexMap::new(alloc);
+    let mut blocks = HashMap::new(alloc);
     let mut i = declarations.len();
     while i > 0 {
         i -= 1;
@@ -180,7 +179,7 @@ fn blocks_of<'a>(
 fn add_block<'a>(
     alloc: Global,
     declaration: &Declaration<'a>,
-    blocks: &mut IndexMap<(&'a str, &'a str), NodeId>,
+    blocks: &mut HashMap<(&'a str, &'a str), NodeId>,
 ) -> Result<(), OutOfMemory>
     ensures { OnOk result ((e t : List ℕ) → block_at e t blocks.new.entries
         ≡ (if is_block_of e t (declared_view declaration.now) then Some (number_of (declared_view declaration.now).body) else block_at e t blocks.old.entries)) }
@@ -196,7 +195,7 @@ fn add_members<'a>(
     enum_name: &'a str,
     members: &[Declaration<'a>],
     number: NodeId,
-    blocks: &mut IndexMap<(&'a str, &'a str), NodeId>,
+    blocks: &mut HashMap<(&'a str, &'a str), NodeId>,
 ) -> Result<(), OutOfMemory>
     ensures { OnOk result ((e t : List ℕ) → block_at e t blocks.new.entries
         ≡ (if has_name t (declared_views members.now) && bytes_eq e enum_name.now then Some number.0 else block_at e t blocks.old.entries)) }

@@ -1,10 +1,13 @@
 -- The table of a scope's bindings, as contracts see it.
-use Rattle.std.proofs.Common.{◌≡◌, refl, ap, ◌∙◌, ℕ, List, [], ◌∷◌, Bool, true, false, cond, filter, Option, Some, String, string_bytes}
+use Rattle.std.proofs.Common.{◌≡◌, refl, ap, ◌∙◌, ℕ, List, [], ◌∷◌, Bool, true, false, cond, filter, Option, Some, String, string_bytes, Ordering, Less, Equal, Greater, is_eq, nat_cmp}
+use Rattle.std.proofs.lemmas.Map.Text.{is_eq-slice_cmp}
+use Rattle.std.specs.BTreeMap.{insert_entry}
+use Rattle.std.specs.Cmp.Lexicographic.{slice_cmp}
 use Rattle.std.specs.Map.{lookup, remove_entry}
 use Rattle.std.specs.Str.{bytes_eq}
-use Rattle.std.specs.String.{string_eq}
+use Rattle.std.specs.Ordering.{match_ordering}
+use Rattle.std.specs.String.{string_cmp}
 use Rattle.std.specs.declared.alloc.Global.{Global}
-use Rattle.indexmap.specs.IndexMap.{insert_entry}
 use Rattle.oxt_names.specs.declared.flags.ScopeFlags.{ScopeFlags}
 use Rattle.oxt_names.specs.declared.ids.ScopeId.{ScopeId}
 use Rattle.oxt_names.specs.declared.ids.SymbolId.{SymbolId}
@@ -13,27 +16,39 @@ use Rattle.oxt_scoping.specs.Entries.{Bindings, ScopeData, bind, bound_to, spell
 abbrev pub Entry : Type 0
 Entry = String Global × SymbolId
 
-pub bound_inserted : (es : List Entry) (k : String Global) (v : SymbolId) → spelled (insert_entry string_eq es k v) ≡ bind (string_bytes k) v (spelled es)
+pub bound_inserted : (es : List Entry) (k : String Global) (v : SymbolId) → spelled (insert_entry string_cmp es k v) ≡ bind (string_bytes k) v (spelled es)
 bound_inserted [] k v = refl
-bound_inserted (e ∷ es) k v = by (bytes_eq (string_bytes k) (string_bytes e.0)) (bound_inserted es k v)
+bound_inserted (e ∷ es) k v = by (slice_cmp nat_cmp (string_bytes k) (string_bytes e.0)) (bound_inserted es k v)
   where
-    by : (b : Bool) → spelled (insert_entry string_eq es k v) ≡ bind (string_bytes k) v (spelled es)
-        → spelled (cond b ((e.0, v) ∷ es) (e ∷ insert_entry string_eq es k v)) ≡ cond b ((string_bytes e.0, v) ∷ spelled es) ((string_bytes e.0, e.1) ∷ bind (string_bytes k) v (spelled es))
-    by true rest = refl
-    by false rest = ap (λ bs. (string_bytes e.0, e.1) ∷ bs) rest
+    by : (o : Ordering) → spelled (insert_entry string_cmp es k v) ≡ bind (string_bytes k) v (spelled es)
+        → spelled (match_ordering o ((k, v) ∷ e ∷ es) ((e.0, v) ∷ es) (e ∷ insert_entry string_cmp es k v))
+        ≡ match_ordering o ((string_bytes k, v) ∷ (string_bytes e.0, e.1) ∷ spelled es) ((string_bytes e.0, v) ∷ spelled es) ((string_bytes e.0, e.1) ∷ bind (string_bytes k) v (spelled es))
+    by Less rest = refl
+    by Equal rest = refl
+    by Greater rest = ap (λ bs. (string_bytes e.0, e.1) ∷ bs) rest
 
-pub bound_found : (t : List ℕ) (es : List Entry) → lookup (λ k. bytes_eq t (string_bytes k)) es ≡ bound_to t (spelled es)
-bound_found t [] = refl
-bound_found t (e ∷ es) = ap (λ (o : Option SymbolId). cond (bytes_eq t (string_bytes e.0)) (Some e.1) o) (bound_found t es)
+-- a spelling is found where it compares as equal
+text_test : (t : List ℕ) → ◌≡◌ {A = String Global → Bool} (λ k. is_eq (slice_cmp nat_cmp t (string_bytes k))) (λ k. bytes_eq t (string_bytes k))
+text_test t = λ j k. is_eq-slice_cmp t (string_bytes k) j
 
-pub bound_removed : (t : List ℕ) (es : List Entry) → spelled (remove_entry (λ k. bytes_eq t (string_bytes k)) es) ≡ unbind t (spelled es)
-bound_removed t [] = refl
-bound_removed t (e ∷ es) = by (bytes_eq t (string_bytes e.0)) (bound_removed t es)
+found : (t : List ℕ) (es : List Entry) → lookup (λ k. bytes_eq t (string_bytes k)) es ≡ bound_to t (spelled es)
+found t [] = refl
+found t (e ∷ es) = ap (λ (o : Option SymbolId). cond (bytes_eq t (string_bytes e.0)) (Some e.1) o) (found t es)
+
+pub bound_found : (t : List ℕ) (es : List Entry) → lookup (λ k. is_eq (slice_cmp nat_cmp t (string_bytes k))) es ≡ bound_to t (spelled es)
+bound_found t es = ap (λ test. lookup test es) (text_test t) ∙ found t es
+
+removed : (t : List ℕ) (es : List Entry) → spelled (remove_entry (λ k. bytes_eq t (string_bytes k)) es) ≡ unbind t (spelled es)
+removed t [] = refl
+removed t (e ∷ es) = by (bytes_eq t (string_bytes e.0)) (removed t es)
   where
     by : (b : Bool) → spelled (remove_entry (λ k. bytes_eq t (string_bytes k)) es) ≡ unbind t (spelled es)
         → spelled (cond b es (e ∷ remove_entry (λ k. bytes_eq t (string_bytes k)) es)) ≡ cond b (spelled es) ((string_bytes e.0, e.1) ∷ unbind t (spelled es))
     by true rest = refl
     by false rest = ap (λ bs. (string_bytes e.0, e.1) ∷ bs) rest
+
+pub bound_removed : (t : List ℕ) (es : List Entry) → spelled (remove_entry (λ k. is_eq (slice_cmp nat_cmp t (string_bytes k))) es) ≡ unbind t (spelled es)
+bound_removed t es = ap (λ test. spelled (remove_entry test es)) (text_test t) ∙ removed t es
 
 pub bound_kept : (p : SymbolId → Bool) (es : List Entry) → spelled (filter (λ e. p e.1) es) ≡ filter (λ b. p b.1) (spelled es)
 bound_kept p [] = refl

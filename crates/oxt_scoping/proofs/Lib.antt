@@ -3,3 +3,4 @@ pub mod Changes
 pub mod Enums
 pub mod Lent
 pub mod Sound
+pub mod Tables

@@ -1,10 +1,12 @@
 -- What holds of every table of scopes, and that each change keeps it.
-use Rattle.std.proofs.Common.{◌≡◌, refl, sym, ap, subst, ◌∙◌, ℕ, zero, suc, ◌<◌, ◌≤◌, List, [], ◌∷◌, ◌++◌, length, map, filter, Bool, true, false, cond, Option, Some, None, IfSome, arith}
+use Rattle.std.proofs.Common.{◌≡◌, refl, sym, ap, subst, ◌∙◌, ℕ, zero, suc, ◌<◌, ◌≤◌, List, [], ◌∷◌, ◌++◌, length, map, filter, Bool, true, false, cond, Option, Some, None, IfSome, arith, Ordering, Less, Equal, Greater, nat_cmp}
 use Rattle.std.proofs.lemmas.List.{length-map}
-use Rattle.std.specs.Prelude.{slice_get, nat_eq}
+use Rattle.std.specs.Prelude.{slice_get}
 use Rattle.std.specs.Map.{lookup, remove_entry}
 use Rattle.std.specs.Str.{bytes_eq}
-use Rattle.indexmap.specs.IndexMap.{insert_entry}
+use Rattle.std.specs.BTreeMap.{insert_entry}
+use Rattle.std.specs.Cmp.Lexicographic.{slice_cmp}
+use Rattle.std.specs.Ordering.{match_ordering}
 use Rattle.oxt_names.specs.Constant.{Constant}
 use Rattle.oxt_names.specs.declared.flags.ScopeFlags.{ScopeFlags}
 use Rattle.oxt_names.specs.declared.ids.ReferenceId.{ReferenceId}
@@ -47,13 +49,14 @@ each_lookup R test (e ∷ es) h = by (test e.0) (each_lookup R test es h.1)
     by true rest = h.0
     by false rest = rest
 
-pub each_inserted : {K V : Type 0} (R : V → Type 0) (eq : K → K → Bool) (es : List (K × V)) (k : K) (v : V) → Each (λ e. R e.1) es → R v → Each (λ e. R e.1) (insert_entry eq es k v)
-each_inserted R eq [] k v h p = (p, tt)
-each_inserted R eq (e ∷ es) k v h p = by (eq k e.0) (each_inserted R eq es k v h.1 p)
+pub each_inserted : {K V : Type 0} (R : V → Type 0) (cmp : K → K → Ordering) (es : List (K × V)) (k : K) (v : V) → Each (λ e. R e.1) es → R v → Each (λ e. R e.1) (insert_entry cmp es k v)
+each_inserted R cmp [] k v h p = (p, tt)
+each_inserted R cmp (e ∷ es) k v h p = by (cmp k e.0) (each_inserted R cmp es k v h.1 p)
   where
-    by : (b : Bool) → Each (λ e. R e.1) (insert_entry eq es k v) → Each (λ e. R e.1) (cond b ((e.0, v) ∷ es) (e ∷ insert_entry eq es k v))
-    by true rest = (p, h.1)
-    by false rest = (h.0, rest)
+    by : (o : Ordering) → Each (λ e. R e.1) (insert_entry cmp es k v) → Each (λ e. R e.1) (match_ordering o ((k, v) ∷ e ∷ es) ((e.0, v) ∷ es) (e ∷ insert_entry cmp es k v))
+    by Less rest = (p, h)
+    by Equal rest = (p, h.1)
+    by Greater rest = (h.0, rest)
 
 pub each_removed : {K V : Type 0} (P : (K × V) → Type 0) (test : K → Bool) (es : List (K × V)) → Each P es → Each P (remove_entry test es)
 each_removed P test [] h = tt
@@ -170,7 +173,7 @@ sound_values s xs h is =
 
 -- one scope more, which a node opens
 pub sound_opened : (s : Scoped) (n : ℕ) (i : ScopeId) (x : ScopeData) (p : ScopeId) (xs : List ScopeData) (es : List (ℕ × ScopeId)) → IsSound s → x.parent ≡ Some p → x.bindings ≡ [] → p.0 < length s.scopes → i.0 ≡ length s.scopes → xs ≡ s.scopes ++ x ∷ []
-    → es ≡ insert_entry nat_eq s.opened n i → IsSound (record s { scopes = xs; opened = es })
+    → es ≡ insert_entry nat_cmp s.opened n i → IsSound (record s { scopes = xs; opened = es })
 sound_opened s n i x p xs es h parent bindings outer number is put =
     let k : IsSound (record s { scopes = xs }) = sound_scope s x p xs h parent bindings outer is in
     let more : length xs ≡ suc (length s.scopes) = ap length is ∙ length_push s.scopes x in
@@ -179,7 +182,7 @@ sound_opened s n i x p xs es h parent bindings outer number is put =
       scopes = k.scopes;
       symbols = k.symbols;
       bodies = k.bodies;
-      opened = subst (Each (λ e. e.1.0 < length xs)) (sym put) (each_inserted (λ (j : ScopeId). j.0 < length xs) nat_eq s.opened n i k.opened (omega arith));
+      opened = subst (Each (λ e. e.1.0 < length xs)) (sym put) (each_inserted (λ (j : ScopeId). j.0 < length xs) nat_cmp s.opened n i k.opened (omega arith));
       declared = k.declared;
       named = k.named;
     }
@@ -202,7 +205,7 @@ sound_symbols s f i ys h same inner is =
 
 -- a declaration more of a symbol
 pub sound_declared : (s : Scoped) (f : SymbolData → SymbolData) (i : SymbolId) (n : ℕ) (ys : List SymbolData) (es : List (ℕ × SymbolId)) → IsSound s → ((y : SymbolData) → (f y).scope ≡ y.scope) → ((y : SymbolData) → (f y).bodies ≡ y.bodies) → i.0 < length s.symbols → ys ≡ changed_at i.0 f s.symbols
-    → es ≡ insert_entry nat_eq s.declared n i → IsSound (record s { symbols = ys; declared = es })
+    → es ≡ insert_entry nat_cmp s.declared n i → IsSound (record s { symbols = ys; declared = es })
 sound_declared s f i n ys es h same kept live is put =
     let k : IsSound (record s { symbols = ys }) = sound_symbols s f i.0 ys h same (λ y j. subst (Each (λ x. x.0 < length s.scopes)) (sym (kept y)) j) is in
     let long : length ys ≡ length s.symbols = ap length is ∙ length_changed f s.symbols i.0 in
@@ -212,13 +215,13 @@ sound_declared s f i n ys es h same kept live is put =
       symbols = k.symbols;
       bodies = k.bodies;
       opened = k.opened;
-      declared = subst (Each (λ e. e.1.0 < length ys)) (sym put) (each_inserted (λ (j : SymbolId). j.0 < length ys) nat_eq s.declared n i k.declared (omega arith));
+      declared = subst (Each (λ e. e.1.0 < length ys)) (sym put) (each_inserted (λ (j : SymbolId). j.0 < length ys) nat_cmp s.declared n i k.declared (omega arith));
       named = k.named;
     }
 
 -- one symbol more, which its scope binds
 pub sound_symbol : (s : Scoped) (n : ℕ) (i : SymbolId) (t : List ℕ) (y : SymbolData) (xs : List ScopeData) (ys : List SymbolData) (es : List (ℕ × SymbolId)) → IsSound s → y.scope.0 < length s.scopes → y.bodies ≡ [] → i.0 ≡ length s.symbols
-    → xs ≡ bound_at y.scope.0 t i s.scopes → ys ≡ s.symbols ++ y ∷ [] → es ≡ insert_entry nat_eq s.declared n i → IsSound (record s { scopes = xs; symbols = ys; declared = es })
+    → xs ≡ bound_at y.scope.0 t i s.scopes → ys ≡ s.symbols ++ y ∷ [] → es ≡ insert_entry nat_cmp s.declared n i → IsSound (record s { scopes = xs; symbols = ys; declared = es })
 sound_symbol s n i t y xs ys es h inside empty number bound is put =
     let more : length ys ≡ suc (length s.symbols) = ap length is ∙ length_push s.symbols y in
     let long : length xs ≡ length s.scopes = ap length bound ∙ length_changed _ s.scopes y.scope.0 in
@@ -228,12 +231,12 @@ sound_symbol s n i t y xs ys es h inside empty number bound is put =
       rooted = omega arith;
       scopes = subst (Each (IsScopeOf (length xs) (length ys))) (sym bound)
           (each_changed (IsScopeOf (length xs) (length ys)) (λ x. record x { bindings = bind t i x.bindings }) s.scopes y.scope.0
-          (λ x k. record { inside = k.inside; binds = each_inserted (λ (j : SymbolId). j.0 < length ys) bytes_eq x.bindings t i k.binds live }) before);
+          (λ x k. record { inside = k.inside; binds = each_inserted (λ (j : SymbolId). j.0 < length ys) (slice_cmp nat_cmp) x.bindings t i k.binds live }) before);
       symbols = subst (Each (λ z. z.scope.0 < length xs)) (sym is) (each_push _ s.symbols y (each_more _ _ s.symbols (λ z k. omega arith) h.symbols) (omega arith));
       bodies = subst (Each (λ z. Each (λ x. x.0 < length xs) z.bodies)) (sym is)
           (each_push _ s.symbols y (each_more _ _ s.symbols (λ z k. each_more _ _ z.bodies (λ x j. omega arith) k) h.bodies) (subst (Each (λ x. x.0 < length xs)) (sym empty) tt));
       opened = each_more _ _ s.opened (λ e k. omega arith) h.opened;
-      declared = subst (Each (λ e. e.1.0 < length ys)) (sym put) (each_inserted (λ (j : SymbolId). j.0 < length ys) nat_eq s.declared n i (each_more _ _ s.declared (λ e k. omega arith) h.declared) live);
+      declared = subst (Each (λ e. e.1.0 < length ys)) (sym put) (each_inserted (λ (j : SymbolId). j.0 < length ys) nat_cmp s.declared n i (each_more _ _ s.declared (λ e k. omega arith) h.declared) live);
       named = h.named;
     }
 
@@ -251,7 +254,7 @@ sound_references s rs h same = record {
 
 -- one reference more
 pub sound_reference : (s : Scoped) (n : ℕ) (i : ReferenceId) (r : Slot) (rs : List Slot) (es : List (ℕ × ReferenceId)) → IsSound s → i.0 ≡ length s.references → rs ≡ s.references ++ r ∷ []
-    → es ≡ insert_entry nat_eq s.named n i → IsSound (record s { references = rs; named = es })
+    → es ≡ insert_entry nat_cmp s.named n i → IsSound (record s { references = rs; named = es })
 sound_reference s n i r rs es h number is put =
     let more : length rs ≡ suc (length s.references) = ap length is ∙ length_push s.references r in
     record {
@@ -261,7 +264,7 @@ sound_reference s n i r rs es h number is put =
       bodies = h.bodies;
       opened = h.opened;
       declared = h.declared;
-      named = subst (Each (λ e. e.1.0 < length rs)) (sym put) (each_inserted (λ (j : ReferenceId). j.0 < length rs) nat_eq s.named n i (each_more _ _ s.named (λ e k. omega arith) h.named) (omega arith));
+      named = subst (Each (λ e. e.1.0 < length rs)) (sym put) (each_inserted (λ (j : ReferenceId). j.0 < length rs) nat_cmp s.named n i (each_more _ _ s.named (λ e k. omega arith) h.named) (omega arith));
     }
 
 -- what means a symbol, and no longer does, is no part of that

@@ -4,7 +4,9 @@ use Rattle.std.specs.Int.RustNames.{bit_and, bit_or}
 use Rattle.std.specs.declared.alloc.Global.{Global}
 use Rattle.std.specs.Map.{lookup, remove_entry}
 use Rattle.std.specs.Str.{bytes_eq}
-use Rattle.indexmap.specs.IndexMap.{insert_entry}
+use Rattle.std.specs.BTreeMap.{insert_entry}
+use Rattle.std.specs.Cmp.Lexicographic.{slice_cmp}
+use Rattle.std.specs.Ordering.{nat_cmp}
 use Rattle.oxt_names.specs.declared.flags.ScopeFlags.{ScopeFlags}
 use Rattle.oxt_names.specs.declared.flags.SymbolFlags.{SymbolFlags}
 use Rattle.oxt_names.specs.declared.ids.ReferenceId.{ReferenceId}
@@ -13,7 +15,7 @@ use Rattle.oxt_names.specs.declared.ids.SymbolId.{SymbolId}
 use Rattle.oxt_names.specs.Constant.{Constant}
 use Rattle.oxt_scoping.specs.declared.entry.Redeclaration.{Redeclaration}
 
--- the symbols of a scope by their spellings, in the order in which the spellings were bound
+-- the symbols of a scope by their spellings, in the order of the bytes of the spellings
 abbrev pub Bindings : Type 0
 Bindings = List (List ℕ × SymbolId)
 
@@ -44,7 +46,7 @@ bound_to t bs = lookup (bytes_eq t) bs
 
 -- the bindings with that one, in place of an earlier one of the spelling if there is one
 abbrev pub bind : List ℕ → SymbolId → Bindings → Bindings
-bind t s bs = insert_entry bytes_eq bs t s
+bind t s bs = insert_entry (slice_cmp nat_cmp) bs t s
 
 -- the bindings without that of the spelling
 abbrev pub unbind : List ℕ → Bindings → Bindings

@@ -1,7 +1,8 @@
 -- The scopes, symbols and references of a program, each known by its place in its list.
 use Rattle.std.specs.Prelude.{ℕ, zero, suc, List, [], ◌∷◌, ◌++◌, length, map, Bool, true, false, ◌<◌, nat_eq, if◌then◌else◌, Option, None, Some, IfSome, slice_get}
-use Rattle.std.specs.Map.{lookup}
-use Rattle.indexmap.specs.IndexMap.{insert_entry}
+use Rattle.std.specs.BTreeMap.{insert_entry}
+use Rattle.std.specs.Map.{lookup, remove_entry, set_value}
+use Rattle.std.specs.Ordering.{nat_cmp}
 use Rattle.oxt_names.specs.declared.ids.NodeId.{NodeId}
 use Rattle.oxt_names.specs.declared.flags.ScopeFlags.{ScopeFlags}
 use Rattle.oxt_names.specs.declared.flags.SymbolFlags.{SymbolFlags}
@@ -15,7 +16,8 @@ use Rattle.oxt_scoping.specs.declared.entry.Slot.{Slot}
 use Rattle.oxt_scoping.specs.Entries.{ScopeData, SymbolData, bind, bound_to, is_value, keeping, unbind, without}
 
 -- the scopes, the symbols and the references; by the number of a node the scope that it opens, the
--- symbol that it declares and the reference that was last made of it; and the names that are taken
+-- symbol that it declares and the reference that was last made of it, in the order of the numbers; and
+-- the names that are taken
 pub record Scoped : Type 0 where
   pub scopes : List ScopeData
   pub symbols : List SymbolData
@@ -28,6 +30,11 @@ pub record Scoped : Type 0 where
 -- what a table has for the node with that number
 abbrev pub at_node : {V : Type 0} → NodeId → List (ℕ × V) → Option V
 at_node n es = lookup (nat_eq n.0) es
+
+-- a table in which a value was put at the number of that node, with what it had there before
+abbrev pub with_before : {V : Type 0} → NodeId → Option V → List (ℕ × V) → List (ℕ × V)
+with_before n None es = remove_entry (nat_eq n.0) es
+with_before n (Some v) es = set_value (nat_eq n.0) es v
 
 -- the list with the element at that place changed
 abbrev pub changed_at : {A : Type 0} → ℕ → (A → A) → List A → List A
@@ -172,21 +179,21 @@ with_scope x s = record s { scopes = s.scopes ++ x ∷ [] }
 
 -- the same of a scope that the node opens
 abbrev pub with_opened_scope : NodeId → ScopeId → ScopeData → Scoped → Scoped
-with_opened_scope n i x s = record s { scopes = s.scopes ++ x ∷ []; opened = insert_entry nat_eq s.opened n.0 i }
+with_opened_scope n i x s = record s { scopes = s.scopes ++ x ∷ []; opened = insert_entry nat_cmp s.opened n.0 i }
 
 -- a symbol more, at the end, which its scope binds and the node declares
 abbrev pub with_symbol : NodeId → SymbolId → SymbolData → Scoped → Scoped
 with_symbol n i y s = record s {
   scopes = bound_at y.scope.0 y.name i s.scopes;
   symbols = s.symbols ++ y ∷ [];
-  declared = insert_entry nat_eq s.declared n.0 i;
+  declared = insert_entry nat_cmp s.declared n.0 i;
 }
 
 -- a declaration more of that symbol
 abbrev pub with_declaration : SymbolId → Redeclaration → Scoped → Scoped
 with_declaration i d s = record s {
   symbols = declared_again i.0 d s.symbols;
-  declared = insert_entry nat_eq s.declared d.node.0 i;
+  declared = insert_entry nat_cmp s.declared d.node.0 i;
 }
 
 -- a reference more, at the end
@@ -194,7 +201,7 @@ abbrev pub with_reference : ReferenceId → Reference → Scoped → Scoped
 with_reference i r s = record s {
   references = s.references ++ record { reference = r; is_live = true } ∷ [];
   symbols = meant_by i r.symbol s.symbols;
-  named = insert_entry nat_eq s.named r.node.0 i;
+  named = insert_entry nat_cmp s.named r.node.0 i;
 }
 
 -- without that reference

@@ -7,12 +7,12 @@ ghost use Rattle.oxt_names.specs.Constant.{constant_view};
 ghost use Rattle.oxt_names.specs.Names.{name_bytes};
 
 use bitflags::Flags;
-use indexmap::IndexMap;
 use oxt_names::constant::ConstantValue;
 use oxt_names::flags::{ReferenceFlags, ScopeFlags, SymbolFlags};
 use oxt_names::ids::{NodeId, OutOfMemory, ReferenceId, ScopeId, SymbolId};
 use oxt_names::name::Name;
 use std::alloc::Global;
+use std::collections::BTreeMap;
 use std::marker::Model;
 
 /// A declaration of a symbol.
@@ -49,7 +49,7 @@ pub struct Slot {
 pub struct ScopeEntry {
     parent: Option<ScopeId>,
     flags: ScopeFlags,
-    bindings: IndexMap<String, SymbolId>,
+    bindings: BTreeMap<String, SymbolId>,
 }
 
 impl Model for ScopeEntry {
@@ -71,7 +71,7 @@ impl ScopeEntry {
         ScopeEntry {
             parent,
             flags,
-            bindings: IndexMap::new(alloc),
+            bindings: BTreeMap::new(alloc),
         }
     }
 
@@ -126,7 +126,7 @@ impl ScopeEntry {
     pub fn unbind(&mut self, name: &str)
         ensures { self.new ≡ record self.old { bindings = unbind name.now self.old.bindings } }
     {
-        self.bindings.shift_remove(name);
+        self.bindings.remove(name);
     }
 }
 
@@ -290,7 +290,7 @@ fn retain_others(references: &mut Vec<ReferenceId>, reference: ReferenceId)
 }
 
 /// Keeps the bindings whose symbols are values that are not ambient.
-fn keep_bound_values(bindings: &mut IndexMap<String, SymbolId>, symbols: &[SymbolEntry])
+fn keep_bound_values(bindings: &mut BTreeMap<String, SymbolId>, symbols: &[SymbolEntry])
     ensures { bindings.new.entries ≡ filter (λ e. stays symbols.now e.1) bindings.old.entries }
 {
     bindings.retain(|_, symbol| is_value_symbol(symbols, *symbol));

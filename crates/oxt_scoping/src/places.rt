@@ -1,13 +1,14 @@
 //! Entries by their places.
-ghost use Rattle.std.specs.Prelude.{◌≡◌, ◌<◌, ◌++◌, ◌∷◌, [], IfSome, OnErr, OnOk, Some, is_some, length, nat_eq, slice_get, string_bytes, vec_capacity, vec_len};
-ghost use Rattle.indexmap.specs.IndexMap.{insert_entry, spare};
-ghost use Rattle.oxt_scoping.specs.Scoped.{bound_at, declared_again, deleted_at, forgotten_by, found_within, live_at, meant_at, meant_by, unbound_at, values_alone, with_body_at, with_value_at};
+ghost use Rattle.std.specs.Prelude.{◌≡◌, ◌<◌, ◌++◌, ◌∷◌, [], IfOk, IfSome, OnErr, OnOk, Some, is_some, length, slice_get, string_bytes, vec_capacity, vec_len};
+ghost use Rattle.std.specs.BTreeMap.{insert_entry};
+ghost use Rattle.std.specs.Ordering.{nat_cmp};
+ghost use Rattle.oxt_scoping.specs.Scoped.{at_node, bound_at, declared_again, deleted_at, forgotten_by, found_within, live_at, meant_at, meant_by, unbound_at, values_alone, with_before, with_body_at, with_value_at};
 ghost use Rattle.oxt_names.specs.Constant.{constant_view};
 
 use crate::entry::{Redeclaration, ScopeEntry, Slot, SymbolEntry};
-use indexmap::IndexMap;
 use oxt_names::constant::ConstantValue;
 use oxt_names::ids::{NodeId, OutOfMemory, ReferenceId, ScopeId, SymbolId};
+use std::collections::BTreeMap;
 
 /// The scope with that number.
 pub fn scope_at(scopes: &[ScopeEntry], scope: ScopeId) -> &ScopeEntry
@@ -214,13 +215,44 @@ pub fn push_reserved<T: Drop>(list: &mut Vec<T>, item: T)
     }
 }
 
-/// Puts the value at the node's number in the table, which has room for it.
-pub fn put_reserved<V: Copy>(table: &mut IndexMap<u64, V>, node: NodeId, value: V)
-    requires { 0 < spare table.old }
-    ensures { table.new.entries ≡ insert_entry nat_eq table.old.entries node.0 value }
+/// What the table has at the node's number.
+pub fn at_node<V: Copy>(table: &BTreeMap<u64, V>, node: NodeId) -> Option<V>
+    ensures { result ≡ at_node node table.now.entries }
 {
-    match table.insert(node.0, value) {
-        Ok(_) => {}
-        Err(_) => {}
+    table.get(&node.0).copied()
+}
+
+/// Puts the value at the node's number in the table, and says what it had there.
+pub fn put_at<V: Copy>(
+    table: &mut BTreeMap<u64, V>,
+    node: NodeId,
+    value: V,
+) -> Result<Option<V>, OutOfMemory>
+    ensures put { OnOk result (table.new.entries ≡ insert_entry nat_cmp table.old.entries node.0 value) }
+    ensures undone { IfOk result (λ before. with_before node before table.new.entries ≡ table.old.entries) }
+    ensures kept { OnErr result (table.new.entries ≡ table.old.entries) }
+{
+    let before = table.insert(node.0, value)?;
+    Ok(before)
+}
+
+/// Leaves in the table what it had at the node's number before a value was put there.
+pub fn put_back<V: Copy>(table: &mut BTreeMap<u64, V>, node: NodeId, before: Option<V>)
+    ensures { table.new.entries ≡ with_before node before table.old.entries }
+{
+    match before {
+        Some(value) => overwrite(table, node, value),
+        None => {
+            table.remove(&node.0);
+        }
+    }
+}
+
+/// Writes the value over what the table has at the node's number, if it has something there.
+fn overwrite<V: Copy>(table: &mut BTreeMap<u64, V>, node: NodeId, value: V)
+    ensures { table.new.entries ≡ with_before node (Some value) table.old.entries }
+{
+    if let Some(place) = table.get_mut(&node.0) {
+        *place = value;
     }
 }

@@ -2,7 +2,7 @@
 ghost use Rattle.std.specs.Prelude.{◌≡◌, ◌<◌, ◌++◌, ◌∷◌, [], IfOk, IfSome, IsSome, IsTrue, IsOk, None, OnErr, OnOk, Some, false, is_some, length, nat_lt, option_map, slice_get, true};
 ghost use Rattle.oxt_names.specs.Constant.{constant_view};
 ghost use Rattle.oxt_names.specs.Names.{name_bytes};
-ghost use Rattle.oxt_names.specs.Made.{is_among, made_name};
+ghost use Rattle.oxt_names.specs.Made.{added, is_among, made_name};
 ghost use Rattle.oxt_scoping.specs.Entries.{begins_const, bodies_of};
 ghost use Rattle.oxt_scoping.specs.Scoped.{Each, at_node, binding_at, found_outwards, live_at, new_scope, new_symbol, still, unbound_at, values_alone, with_body_at, with_declaration, with_opened_scope, with_reference, with_scope, with_symbol, with_value_at, without_reference};
 
@@ -10,16 +10,17 @@ use crate::entry::{
     Redeclaration, Reference, ScopeEntry, Slot, SymbolEntry, begins_const, is_enum,
 };
 use crate::places::{
-    add_body_in, bind_in, declare_in, delete_in, find_within, forget_in, is_live, keep_values_in,
-    push_reserved, put_reserved, refer_in, scope_at, set_value_in, slot_at, symbol_at, unbind_in,
+    add_body_in, at_node, bind_in, declare_in, delete_in, find_within, forget_in, is_live,
+    keep_values_in, push_reserved, put_at, put_back, refer_in, scope_at, set_value_in, slot_at,
+    symbol_at, unbind_in,
 };
-use indexmap::IndexMap;
 use oxt_names::constant::ConstantValue;
 use oxt_names::flags::{ReferenceFlags, ScopeFlags, SymbolFlags};
 use oxt_names::ids::{NodeId, OutOfMemory, ReferenceId, ScopeId, SymbolId};
 use oxt_names::name::Name;
 use oxt_names::uid::UidNames;
 use std::alloc::Global;
+use std::collections::BTreeMap;
 use std::marker::Model;
 use std::vec;
 
@@ -30,9 +31,9 @@ pub struct Scoping {
     scopes: Vec<ScopeEntry>,
     symbols: Vec<SymbolEntry>,
     references: Vec<Slot>,
-    opened: IndexMap<u64, ScopeId>,
-    declared: IndexMap<u64, SymbolId>,
-    named: IndexMap<u64, ReferenceId>,
+    opened: BTreeMap<u64, ScopeId>,
+    declared: BTreeMap<u64, SymbolId>,
+    named: BTreeMap<u64, ReferenceId>,
     names: UidNames,
 }
 
@@ -63,9 +64,9 @@ impl Scoping {
             scopes,
             symbols: Vec::new(alloc),
             references: Vec::new(alloc),
-            opened: IndexMap::new(alloc),
-            declared: IndexMap::new(alloc),
-            named: IndexMap::new(alloc),
+            opened: BTreeMap::new(alloc),
+            declared: BTreeMap::new(alloc),
+            named: BTreeMap::new(alloc),
             names,
         })
     }
@@ -83,7 +84,7 @@ impl Scoping {
         let root = ScopeEntry::new(alloc, None, flags);
         let mut scopes = Vec::new(alloc);
         scopes.push(root)?;
-        let mut opened = IndexMap::new(alloc);
+        let mut opened = BTreeMap::new(alloc);
         opened.insert(node.0, ScopeId(0))?;
         Ok(Scoping {
             alloc,
@@ -91,8 +92,8 @@ impl Scoping {
             symbols: Vec::new(alloc),
             references: Vec::new(alloc),
             opened,
-            declared: IndexMap::new(alloc),
-            named: IndexMap::new(alloc),
+            declared: BTreeMap::new(alloc),
+            named: BTreeMap::new(alloc),
             names,
         })
     }
@@ -111,7 +112,7 @@ impl Scoping {
         ensures entry { result ≡ at_node node self.now.opened }
         ensures live { IfSome result (λ scope. scope.0 < length self.now.scopes) }
     {
-        self.opened.get(&node.0).copied()
+        at_node(&self.opened, node)
     }
 
     /// The symbol that the node declares.
@@ -119,7 +120,7 @@ impl Scoping {
         ensures entry { result ≡ at_node node self.now.declared }
         ensures live { IfSome result (λ symbol. symbol.0 < length self.now.symbols) }
     {
-        self.declared.get(&node.0).copied()
+        at_node(&self.declared, node)
     }
 
     /// The reference of the node, unless it was deleted.
@@ -127,7 +128,7 @@ impl Scoping {
         ensures entry { result ≡ still self.now.references (at_node node self.now.named) }
         ensures live { IfSome result (λ reference. IsSome (live_at self.now.references reference.0)) }
     {
-        let reference = self.named.get(&node.0).copied()?;
+        let reference = at_node(&self.named, node)?;
         if is_live(self.references.as_slice(), reference) {
             Some(reference)
         } else {
@@ -312,9 +313,9 @@ impl Scoping {
     {
         let scope = ScopeId(self.scopes.len() as u64);
         let entry = ScopeEntry::new(self.alloc, Some(parent), flags);
-        self.opened.reserve(1)?;
-        self.scopes.push(entry)?;
-        put_reserved(&mut self.opened, node, scope);
+        self.scopes.reserve(1)?;
+        put_at(&mut self.opened, node, scope)?;
+        push_reserved(&mut self.scopes, entry);
         Ok(scope)
     }
 
@@ -357,12 +358,14 @@ impl Scoping {
     {
         let symbol = SymbolId(self.symbols.len() as u64);
         self.symbols.reserve(1)?;
-        self.declared.reserve(1)?;
         let entry = SymbolEntry::declared(self.alloc, name, scope, flags, declaration)?;
         let key = String::from_str(self.alloc, name.as_str())?;
-        bind_in(&mut self.scopes, scope, key, symbol)?;
+        let before = put_at(&mut self.declared, declaration.node, symbol)?;
+        if let Err(error) = bind_in(&mut self.scopes, scope, key, symbol) {
+            put_back(&mut self.declared, declaration.node, before);
+            return Err(error);
+        }
         push_reserved(&mut self.symbols, entry);
-        put_reserved(&mut self.declared, declaration.node, symbol);
         Ok(symbol)
     }
 
@@ -378,9 +381,11 @@ impl Scoping {
         ensures symbols_stay { length self.new.symbols ≡ length self.old.symbols }
         ensures kept { OnErr result (self.new ≡ self.old) }
     {
-        self.declared.reserve(1)?;
-        declare_in(&mut self.symbols, symbol, declaration)?;
-        put_reserved(&mut self.declared, declaration.node, symbol);
+        let before = put_at(&mut self.declared, declaration.node, symbol)?;
+        if let Err(error) = declare_in(&mut self.symbols, symbol, declaration) {
+            put_back(&mut self.declared, declaration.node, before);
+            return Err(error);
+        }
         Ok(())
     }
 
@@ -431,10 +436,12 @@ impl Scoping {
             is_live: true,
         };
         self.references.reserve(1)?;
-        self.named.reserve(1)?;
-        refer_in(&mut self.symbols, symbol, reference)?;
+        let before = put_at(&mut self.named, node, reference)?;
+        if let Err(error) = refer_in(&mut self.symbols, symbol, reference) {
+            put_back(&mut self.named, node, before);
+            return Err(error);
+        }
         push_reserved(&mut self.references, slot);
-        put_reserved(&mut self.named, node, reference);
         Ok(reference)
     }
 
@@ -502,7 +509,7 @@ impl Scoping {
     pub fn generate_uid_name(&mut self, name: &str) -> Result<Name, OutOfMemory>
         ensures first { IfOk result (λ made. name_bytes made ≡ made_name self.old.taken name.now) }
         ensures free { IfOk result (λ made. is_among (name_bytes made) self.old.taken ≡ false) }
-        ensures taken { IfOk result (λ made. self.new ≡ record self.old { taken = self.old.taken ++ name_bytes made ∷ [] }) }
+        ensures taken { IfOk result (λ made. self.new ≡ record self.old { taken = added (name_bytes made) self.old.taken }) }
         ensures kept { OnErr result (self.new ≡ self.old) }
     {
         self.names.generate_uid_name(name)

@@ -3,7 +3,5 @@ pub mod Top
 pub mod Lending
 pub mod Entries
 pub mod Alone
-pub mod Placed
 pub mod Frame
 pub mod Ready
-pub mod Law

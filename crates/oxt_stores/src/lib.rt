@@ -4,9 +4,7 @@
 
 pub mod bound;
 pub mod declarations;
-pub mod injector;
-mod insertions;
-pub mod law;
+pub mod insertions;
 mod make;
 pub mod refused;
 pub mod sparse;

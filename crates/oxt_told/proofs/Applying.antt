@@ -1,6 +1,7 @@
 -- Decorators, parameters and uses of names, one after another.
-use Rattle.std.proofs.Common.{◌≡◌, ◌∙◌, refl, sym, ap, ℕ, ◌+◌, ◌<◌, ◌≤◌, List, [], ◌∷◌, ◌++◌, length, get_or, drop, append_assoc, append-nil, Option, Some, nat_eq}
-use Rattle.indexmap.specs.IndexMap.{insert_entry}
+use Rattle.std.proofs.Common.{◌≡◌, ◌∙◌, refl, sym, ap, ℕ, ◌+◌, ◌<◌, ◌≤◌, List, [], ◌∷◌, ◌++◌, length, get_or, drop, append_assoc, append-nil, Option, Some}
+use Rattle.std.specs.BTreeMap.{insert_entry}
+use Rattle.std.specs.Ordering.{nat_cmp}
 use Rattle.oxt_facts.specs.Told.{Tellings, inner}
 use Rattle.oxt_options.specs.Lists.{numbers_in}
 use Rattle.oxt_search.specs.All.{all_among}
@@ -48,7 +49,7 @@ pub ruleset parameter_steps = (parameter_more, parameter_done)
 -- ---- uses that mean an inner name
 
 pub use_more : (g : ℕ) (ts new : Tellings) (ns : List NodeId) (i : ℕ) (n : NodeId) → i < length ns → n ≡ get_or ns i n
-    → new ≡ insert_entry nat_eq ts n.0 (inner g)
+    → new ≡ insert_entry nat_cmp ts n.0 (inner g)
     → all_told ts (uses_told g (numbers_in (drop i ns))) ≡ all_told new (uses_told g (numbers_in (drop (i + 1) ns)))
 use_more g ts new ns i n lt here put =
     ap (λ ms. all_told ts (uses_told g (numbers_in ms))) (drop_at ns i n lt here) ∙ ap (λ x. all_told x (uses_told g (numbers_in (drop (i + 1) ns)))) (sym put)

@@ -1,7 +1,8 @@
 -- What is said of a symbol or a reference is said of the one that is found.
-use Rattle.std.proofs.Common.{◌≡◌, ◌∙◌, refl, sym, ap, ℕ, List, ◌∷◌, false, Option, None, Some, option_map, is_some, nat_eq}
+use Rattle.std.proofs.Common.{◌≡◌, ◌∙◌, refl, sym, ap, ℕ, List, ◌∷◌, false, Option, None, Some, option_map, is_some}
 use Rattle.std.specs.Prelude.{slice_get, ◌==◌}
-use Rattle.indexmap.specs.IndexMap.{insert_entry}
+use Rattle.std.specs.BTreeMap.{insert_entry}
+use Rattle.std.specs.Ordering.{nat_cmp}
 use Rattle.oxt_facts.specs.Told.{Tellings, block, member, bare}
 use Rattle.oxt_modules.specs.Names.{symbol_in}
 use Rattle.oxt_scoping.specs.Entries.{SymbolData}
@@ -33,7 +34,7 @@ symbol_is s a p n d (Some y) t c rs name value references = cc
 
 pub symbol_found : (s : Scoped) (a : Around) (p : Option (List ℕ)) (n : ℕ) (d : Doc) (i : ℕ) (t : List ℕ) (c : Option Constant) (rs : List ReferenceId) (ts mid new : Tellings)
     → option_map (λ y. y.name) (slice_get s.symbols i) ≡ Some t → option_map (λ y. y.value) (slice_get s.symbols i) ≡ Some c → option_map (λ y. y.references) (slice_get s.symbols i) ≡ Some rs
-    → mid ≡ insert_entry nat_eq ts n (member (record { owner = a.name; block = a.block; name = t; value = value_of c p d; is_reversed = is_reversed c d }))
+    → mid ≡ insert_entry nat_cmp ts n (member (record { owner = a.name; block = a.block; name = t; value = value_of c p d; is_reversed = is_reversed c d }))
     → new ≡ all_told mid (bares s a rs)
     → new ≡ all_told ts (symbol_told s a p n d (slice_get s.symbols i))
 symbol_found s a p n d i t c rs ts mid new name value references put rest =
@@ -90,11 +91,11 @@ block_number (Some y) i a h = let e : around y i ≡ a = (cc) in ap (λ (b : Aro
 
 pub block_found : (s : Scoped) (p : Asked) (i : ℕ) (ms : Docs) (o : Option SymbolId) (e : Option SymbolData) (y : SymbolId) (a : Around) (x : ScopeId) (ts mid new : Tellings) → Some y ≡ o → symbol_in s.symbols o ≡ e
     → option_map (λ y. around y i) (slice_get s.symbols y.0) ≡ Some a → option_map (λ y. y.scope) (slice_get s.symbols y.0) ≡ Some x
-    → mid ≡ insert_entry nat_eq ts a.block (block (record { name = a.name; group = a.group; node = a.block; is_first = p.first i; is_top = x.0 == 0; is_pure = is_pure ms }))
+    → mid ≡ insert_entry nat_cmp ts a.block (block (record { name = a.name; group = a.group; node = a.block; is_first = p.first i; is_top = x.0 == 0; is_pure = is_pure ms }))
     → new ≡ all_told mid (members_told s a None ms) → new ≡ all_told ts (block_told s p i ms e)
 block_found s p i ms o e y a x ts mid new found is h scope put told =
     told
-    ∙ ap (λ v. all_told v (members_told s a None ms)) (put ∙ ap (λ n. insert_entry nat_eq ts n (block (record { name = a.name; group = a.group; node = n; is_first = p.first i; is_top = x.0 == 0; is_pure = is_pure ms }))) (block_number (slice_get s.symbols y.0) i a h))
+    ∙ ap (λ v. all_told v (members_told s a None ms)) (put ∙ ap (λ n. insert_entry nat_cmp ts n (block (record { name = a.name; group = a.group; node = n; is_first = p.first i; is_top = x.0 == 0; is_pure = is_pure ms }))) (block_number (slice_get s.symbols y.0) i a h))
     ∙ ap (all_told ts) (sym (block_is s p i ms (slice_get s.symbols y.0) a x h scope))
     ∙ ap (λ q. all_told ts (block_told s p i ms q)) (ap (symbol_in s.symbols) found ∙ is)
 
@@ -102,7 +103,7 @@ pub no_block : (s : Scoped) (p : Asked) (i : ℕ) (ms : Docs) (o : Option Symbol
 no_block s p i ms o e ts none is = ap (λ q. all_told ts (block_told s p i ms q)) (ap (symbol_in s.symbols) none ∙ is)
 
 -- what is told of a reference that was not deleted, and of one that was
-pub bare_found : (a : Around) (o : Option Reference) (r : Reference) (ts new : Tellings) → o ≡ Some r → new ≡ insert_entry nat_eq ts r.node.0 (bare a.name a.group) → new ≡ all_told ts (bare_at a o)
+pub bare_found : (a : Around) (o : Option Reference) (r : Reference) (ts new : Tellings) → o ≡ Some r → new ≡ insert_entry nat_cmp ts r.node.0 (bare a.name a.group) → new ≡ all_told ts (bare_at a o)
 bare_found a o r ts new is put = put ∙ ap (λ p. all_told ts (bare_at a p)) (sym is)
 
 pub bare_gone : (a : Around) (o : Option Reference) (ts : Tellings) → is_some o ≡ false → ts ≡ all_told ts (bare_at a o)

@@ -1,6 +1,7 @@
 -- Lists of parts and of references, one after another.
-use Rattle.std.proofs.Common.{◌≡◌, ◌∙◌, refl, sym, ap, ℕ, ◌+◌, ◌<◌, ◌≤◌, List, [], ◌∷◌, ◌++◌, length, get_or, drop, Bool, false, ◌||◌, Option, nat_eq}
-use Rattle.indexmap.specs.IndexMap.{insert_entry}
+use Rattle.std.proofs.Common.{◌≡◌, ◌∙◌, refl, sym, ap, ℕ, ◌+◌, ◌<◌, ◌≤◌, List, [], ◌∷◌, ◌++◌, length, get_or, drop, Bool, false, ◌||◌, Option}
+use Rattle.std.specs.BTreeMap.{insert_entry}
+use Rattle.std.specs.Ordering.{nat_cmp}
 use Rattle.oxt_facts.specs.Told.{Tellings}
 use Rattle.oxt_scoping.specs.Scoped.{Scoped, live_at}
 use Rattle.oxt_names.specs.declared.ids.ReferenceId.{ReferenceId}
@@ -14,7 +15,7 @@ use Rattle.oxt_tree.specs.declared.tree.Part.{Part}
 -- tellings over one another
 pub all_told-append : (ts xs bs : Tellings) → all_told ts (xs ++ bs) ≡ all_told (all_told ts xs) bs
 all_told-append ts [] bs = refl
-all_told-append ts (e ∷ xs) bs = all_told-append (insert_entry nat_eq ts e.0 e.1) xs bs
+all_told-append ts (e ∷ xs) bs = all_told-append (insert_entry nat_cmp ts e.0 e.1) xs bs
 
 pub told_both : (ts mid new xs bs : Tellings) → mid ≡ all_told ts xs → new ≡ all_told mid bs → new ≡ all_told ts (xs ++ bs)
 told_both ts mid new xs bs first second = second ∙ ap (λ x. all_told x bs) first ∙ sym (all_told-append ts xs bs)

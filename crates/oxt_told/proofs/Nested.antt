@@ -1,7 +1,8 @@
 -- Blocks of namespaces, and the names that they export.
-use Rattle.std.proofs.Common.{◌≡◌, ◌∙◌, refl, sym, ap, ℕ, ◌+◌, ◌<◌, ◌≤◌, List, [], ◌∷◌, ◌++◌, Bool, length, get_or, drop, append_assoc, append-nil, Option, None, Some, option_map, nat_eq}
+use Rattle.std.proofs.Common.{◌≡◌, ◌∙◌, refl, sym, ap, ℕ, ◌+◌, ◌<◌, ◌≤◌, List, [], ◌∷◌, ◌++◌, Bool, length, get_or, drop, append_assoc, append-nil, Option, None, Some, option_map}
 use Rattle.std.specs.Prelude.{slice_get}
-use Rattle.indexmap.specs.IndexMap.{insert_entry}
+use Rattle.std.specs.BTreeMap.{insert_entry}
+use Rattle.std.specs.Ordering.{nat_cmp}
 use Rattle.oxt_facts.specs.Told.{Names, Namespace, Tellings, names_view, space}
 use Rattle.oxt_facts.specs.declared.told.ToldName.{ToldName}
 use Rattle.oxt_modules.specs.Names.{declared_symbol, symbol_in}
@@ -29,7 +30,7 @@ namespace_is fs q i None x h = cc
 namespace_is fs q i (Some y) x h = let e : namespace_of fs q i y ≡ x = cc in ap (λ (z : Namespace). (i, space z) ∷ []) e
 
 pub namespace_found : (s : Scoped) (fs : ℕ → Bool) (q : Seat) (i : ℕ) (o : Option SymbolId) (e : Option SymbolData) (y : SymbolId) (x : Namespace) (ts new : Tellings) → Some y ≡ o → symbol_in s.symbols o ≡ e
-    → option_map (λ y. namespace_of fs q i y) (slice_get s.symbols y.0) ≡ Some x → new ≡ insert_entry nat_eq ts i (space x) → new ≡ all_told ts (named_told fs q i e)
+    → option_map (λ y. namespace_of fs q i y) (slice_get s.symbols y.0) ≡ Some x → new ≡ insert_entry nat_cmp ts i (space x) → new ≡ all_told ts (named_told fs q i e)
 namespace_found s fs q i o e y x ts new found is h put =
     put ∙ ap (all_told ts) (sym (namespace_is fs q i (slice_get s.symbols y.0) x h))
     ∙ ap (λ r. all_told ts (named_told fs q i r)) (ap (symbol_in s.symbols) found ∙ is)

@@ -1,7 +1,7 @@
 -- What is told of the elements of a class: what becomes of each, and the call that it gives.
 use Rattle.std.specs.Prelude.{ℕ, ◌+◌, ◌-◌, List, [], ◌∷◌, ◌++◌, Bool, true, false, not, ◌&&◌, ◌||◌, ◌==◌, if◌then◌else◌, Option, None, Some, option_map, codes}
 use Rattle.oxt_declares.specs.Calls.{is_called}
-use Rattle.oxt_decorated.specs.Storage.{storage_text}
+use Rattle.oxt_fields.specs.Storage.{storage_text}
 use Rattle.oxt_facts.specs.Told.{Accessing, Calling, Holder, Moving, Storage, Tellings, Use, accessor, called, gone, kept, leaves_key, moves, plain, this, use_view, used}
 use Rattle.oxt_fields.specs.Classes.{elements_of}
 use Rattle.oxt_fields.specs.Fates.{fate, hoists_private, is_moving, needs_call_temporary, needs_temporary}

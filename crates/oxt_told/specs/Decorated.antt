@@ -1,12 +1,11 @@
 -- What is told of classes that are decorated, whose elements are, or that take a made name.
-use Rattle.std.specs.Prelude.{ℕ, [], ◌∷◌, Bool, true, false, not, ◌&&◌, ◌||◌, ◌==◌, if◌then◌else◌, Option, None, Some, is_some, codes}
+use Rattle.std.specs.Prelude.{ℕ, [], ◌∷◌, Bool, false, not, ◌&&◌, ◌||◌, ◌==◌, if◌then◌else◌, Option, None, Some, is_some, codes}
 use Rattle.oxt_declares.specs.Calls.{calls_any, is_decorated}
-use Rattle.oxt_decorated.specs.PrivateIn.{holds_private_in}
-use Rattle.oxt_decorated.specs.Statics.{has_static_accessor, has_static_part}
+use Rattle.oxt_fields.specs.PrivateIn.{holds_private_in}
+use Rattle.oxt_fields.specs.Statics.{has_static_accessor, has_static_part}
 use Rattle.oxt_facts.specs.Told.{Decorating, Described, Tellings, Use, decorated, default_class, titled, undescribed}
 use Rattle.oxt_fields.specs.Classes.{elements_of}
 use Rattle.oxt_fields.specs.Rules.{Rules}
-use Rattle.oxt_grammar.specs.declared.kind.Kind.{Kind}
 use Rattle.oxt_grammar.specs.declared.kind.Kind.TheVariants as kind
 use Rattle.oxt_scoping.specs.Scoped.{Scoped}
 use Rattle.oxt_search.specs.First.{first_in}

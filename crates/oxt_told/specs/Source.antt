@@ -1,7 +1,8 @@
 -- What is told of the enums of a source, of the expressions that are inlined, of what its `import =` and the specifiers of
 -- its modules become, and of its classes, by its table of scopes and symbols, by its plan, and by what is chosen.
-use Rattle.std.specs.Prelude.{ℕ, ◌==◌, List, [], ◌∷◌, ◌++◌, Bool, true, false, not, ◌&&◌, if◌then◌else◌, nat_eq, Option, None, Some, codes}
-use Rattle.indexmap.specs.IndexMap.{insert_entry}
+use Rattle.std.specs.Prelude.{ℕ, ◌==◌, List, [], ◌∷◌, ◌++◌, Bool, true, false, not, ◌&&◌, if◌then◌else◌, Option, None, Some, codes}
+use Rattle.std.specs.BTreeMap.{insert_entry}
+use Rattle.std.specs.Ordering.{nat_cmp}
 use Rattle.oxt_facts.specs.Told.{Tellings, Value, block, member, bare, inlined, gone, constant, following, written}
 use Rattle.oxt_modules.specs.Names.{declared_symbol}
 use Rattle.oxt_options.specs.Facts.{Facts, alias_at, constant_at, is_in}
@@ -224,4 +225,4 @@ abbrev mutual
 -- these tellings over those
 abbrev pub all_told : Tellings → Tellings → Tellings
 all_told ts [] = ts
-all_told ts (e ∷ es) = all_told (insert_entry nat_eq ts e.0 e.1) es
+all_told ts (e ∷ es) = all_told (insert_entry nat_cmp ts e.0 e.1) es

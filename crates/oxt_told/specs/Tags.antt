@@ -1,5 +1,5 @@
 -- The tags of names that are made for classes and keys, and the names by which classes are called.
-use Rattle.std.specs.Prelude.{ℕ, List, ◌++◌, Bool, true, false, not, ◌&&◌, ◌||◌, if◌then◌else◌, Option, None, Some, option_map, codes}
+use Rattle.std.specs.Prelude.{ℕ, List, ◌++◌, Bool, not, ◌&&◌, ◌||◌, if◌then◌else◌, Option, None, Some, option_map, codes}
 use Rattle.std.specs.Fmt.{decimal}
 use Rattle.oxt_facts.specs.Told.{Use, made_use, name_use}
 use Rattle.oxt_scoping.specs.Entries.{SymbolData}

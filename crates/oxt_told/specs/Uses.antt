@@ -1,5 +1,5 @@
 -- What is told of decorators, and of names that are read as the alias of a class or as its inner name.
-use Rattle.std.specs.Prelude.{ℕ, ◌+◌, List, [], ◌∷◌, ◌++◌, Bool, true, false, ◌&&◌, ◌||◌, ◌==◌, if◌then◌else◌, Option, None, Some, codes}
+use Rattle.std.specs.Prelude.{ℕ, ◌+◌, List, [], ◌∷◌, ◌++◌, Bool, true, false, ◌&&◌, ◌==◌, if◌then◌else◌, Option, None, Some, codes}
 use Rattle.oxt_declares.specs.Calls.{is_called}
 use Rattle.oxt_facts.specs.Told.{Tellings, alias, applied, inner}
 use Rattle.oxt_fields.specs.Classes.{elements_of, parameters_of}

@@ -1,6 +1,7 @@
 //! What is told of the elements of a class: what becomes of each, and the call that it gives.
-ghost use Rattle.std.specs.Prelude.{◌≡◌, IfOk, OnOk, Some, false, true, count_by, nat_eq, option_map};
-ghost use Rattle.indexmap.specs.IndexMap.{insert_entry};
+ghost use Rattle.std.specs.Prelude.{◌≡◌, IfOk, OnOk, Some, false, true, count_by, option_map};
+ghost use Rattle.std.specs.BTreeMap.{insert_entry};
+ghost use Rattle.std.specs.Ordering.{nat_cmp};
 ghost use Rattle.oxt_facts.specs.Told.{accessing_view, calling_view, holder_view, moves, storage_view, use_view};
 ghost use Rattle.oxt_fields.specs.Fates.{fate, needs_temporary};
 ghost use Rattle.oxt_fields.specs.Rules.{rules_view};
@@ -14,7 +15,6 @@ use crate::metadata::element_described;
 use crate::tags::{callee, object_use, share_use, tag_of_key};
 use crate::told::Source;
 use oxt_declares::calls::is_called;
-use oxt_decorated::storage::storage_text;
 use oxt_facts::told::{
     Told, ToldAccessor, ToldCall, ToldElement, ToldField, ToldNodes, ToldObject, ToldStorage,
     ToldUse,
@@ -22,6 +22,7 @@ use oxt_facts::told::{
 use oxt_fields::class::elements_of;
 use oxt_fields::fate::{Fate, fate_of, hoists_private, needs_call_temporary, needs_temporary};
 use oxt_fields::rules::FieldRules;
+use oxt_fields::storage::storage_text;
 use oxt_grammar::field::Field;
 use oxt_grammar::kind::Kind;
 use oxt_names::ids::{NodeId, OutOfMemory};
@@ -458,7 +459,7 @@ fn tell_moving(
     node: &Node,
     told: &mut ToldNodes,
 ) -> Result<(), OutOfMemory>
-    ensures { OnOk result (told.new ≡ insert_entry nat_eq told.old node.now.id.0
+    ensures { OnOk result (told.new ≡ insert_entry nat_cmp told.old node.now.id.0
         (moves (moving_of stays has_temporary (option_map calling_view call) is_last (node_doc node.now)))) }
 {
     let is_static = node.flag(Field::Static);
@@ -511,8 +512,7 @@ fn accessing_of(
         ≡ accessing_of (rules_view source.now.rules) (common_view shared.now) (option_map calling_view call) node.now.id.0
         (node_doc node.now)) }
 {
-    let storage = storage_of(source.alloc, source.rules, node)?;
-    let object = holder_of(shared, node)?;
+    let (storage, object) = place_of(source, shared, node)?;
     Ok(ToldAccessor {
         is_static: node.flag(Field::Static),
         storage,
@@ -521,6 +521,22 @@ fn accessing_of(
         moves: fate_of(source.rules, shared.hoists, node).is_moving(),
         call,
     })
+}
+
+/// Where the accessor keeps its value: the name of the field, and the object that has it.
+fn place_of(
+    source: &Source,
+    shared: &Shared,
+    node: &Node,
+) -> Result<(ToldStorage, ToldObject), OutOfMemory>
+    ensures storage { IfOk result (λ place. storage_view place.0
+        ≡ storage_of (rules_view source.now.rules) (node_doc node.now)) }
+    ensures object { IfOk result (λ place. holder_view place.1
+        ≡ holder_of (option_map use_view shared.now.object) (node_doc node.now)) }
+{
+    let storage = storage_of(source.alloc, source.rules, node)?;
+    let object = holder_of(shared, node)?;
+    Ok((storage, object))
 }
 
 /// The name of the field in which the accessor keeps its value.

@@ -1,6 +1,7 @@
 //! What is told of the members of a block, and of the bare names that mean them.
-ghost use Rattle.std.specs.Prelude.{◌≡◌, ◌<◌, None, OnOk, IfOk, codes, length, nat_eq, option_map, slice_get};
-ghost use Rattle.indexmap.specs.IndexMap.{insert_entry};
+ghost use Rattle.std.specs.Prelude.{◌≡◌, ◌<◌, None, OnOk, IfOk, codes, length, option_map, slice_get};
+ghost use Rattle.std.specs.BTreeMap.{insert_entry};
+ghost use Rattle.std.specs.Ordering.{nat_cmp};
 ghost use Rattle.oxt_facts.specs.Told.{member, value_view};
 ghost use Rattle.oxt_modules.specs.Names.{declared_symbol};
 ghost use Rattle.oxt_scoping.specs.Scoped.{live_at};
@@ -125,7 +126,7 @@ fn tell_value(
     is_reversed: bool,
     told: &mut ToldNodes,
 ) -> Result<(), OutOfMemory>
-    ensures { OnOk result (told.new ≡ insert_entry nat_eq told.old node.0 (member (record { owner = name_bytes around.now.name.now; block = around.now.block; name = name_bytes name.now; value = value_view value; is_reversed = is_reversed }))) }
+    ensures { OnOk result (told.new ≡ insert_entry nat_cmp told.old node.0 (member (record { owner = name_bytes around.now.name.now; block = around.now.block; name = name_bytes name.now; value = value_view value; is_reversed = is_reversed }))) }
 {
     match names_of(around.name, name) {
         Ok(names) => told.tell(

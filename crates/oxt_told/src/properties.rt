@@ -3,15 +3,14 @@ ghost use Rattle.std.specs.Prelude.{◌≡◌, ◌++◌, ◌||◌, map, not, IfO
 ghost use Rattle.std.specs.List.{list_any};
 ghost use Rattle.oxt_fields.specs.Classes.{is_property};
 ghost use Rattle.oxt_fields.specs.Rules.{rules_view};
-ghost use Rattle.oxt_names.specs.Made.{is_among};
+ghost use Rattle.oxt_names.specs.Made.{added, is_among};
 ghost use Rattle.oxt_told.specs.Classes.{empty_fields, free_names, has_properties, identifier_in, is_name, is_own, is_own_name, own_name, parameters_in, property_name, property_names};
-ghost use Rattle.oxt_told.specs.Taken.{free_name, taken_more, texts_in};
+ghost use Rattle.oxt_told.specs.Taken.{free_name};
 ghost use Rattle.oxt_tree.specs.Bound.{bound_views};
 ghost use Rattle.oxt_names.specs.Names.{name_bytes};
 ghost use Rattle.oxt_tree.specs.View.{docs_in, doc_or_nil, node_doc, part_doc};
 
 use crate::namespaces::node_names;
-use indexmap::IndexSet;
 use oxt_fields::class::{is_property, parameters_of};
 use oxt_fields::fate::{is_field, is_static};
 use oxt_fields::rules::FieldRules;
@@ -19,6 +18,7 @@ use oxt_grammar::field::Field;
 use oxt_grammar::kind::Kind;
 use oxt_names::ids::OutOfMemory;
 use oxt_names::name::Name;
+use oxt_names::uid::UidNames;
 use oxt_tree::bound::BoundName;
 use oxt_tree::tree::{Node, Part};
 use std::alloc::Global;
@@ -116,11 +116,11 @@ pub fn empty_fields(
 
 /// The names of the properties that are not keys of these elements, each once.
 #[tactic(auto, using(crate::proofs::Taking::free_steps))]
-fn free_names<'a>(
+fn free_names(
     alloc: Global,
     rules: FieldRules,
-    elements: &'a [Part],
-    properties: &'a [BoundName],
+    elements: &[Part],
+    properties: &[BoundName],
 ) -> Result<Vec<Name>, OutOfMemory>
     ensures { IfOk result (λ fields. map name_bytes fields.items
         ≡ free_names (is_own_name (rules_view rules.entry) (docs_in elements.now)) (map (λ p. p.name) (bound_views properties.now))) }
@@ -135,15 +135,10 @@ fn free_names<'a>(
 
 /// Appends the name, unless it is taken, and takes it.
 #[tactic(auto, using(crate::proofs::Taking::no_name_put))]
-fn push_free<'a>(
-    name: &'a Name,
-    taken: &mut IndexSet<&'a str>,
-    fields: &mut Vec<Name>,
-) -> Result<(), OutOfMemory>
-    ensures taken { OnOk result (texts_in taken.new.keys
-        ≡ taken_more (texts_in taken.old.keys) (name_bytes name.now)) }
+fn push_free(name: &Name, taken: &mut UidNames, fields: &mut Vec<Name>) -> Result<(), OutOfMemory>
+    ensures taken { OnOk result (taken.new ≡ added (name_bytes name.now) taken.old) }
     ensures fields { OnOk result (map name_bytes fields.new.items
-        ≡ map name_bytes fields.old.items ++ free_name (texts_in taken.old.keys) (name_bytes name.now)) }
+        ≡ map name_bytes fields.old.items ++ free_name taken.old (name_bytes name.now)) }
 {
     if take(name, taken)? {
         fields.push(name.share()?)?;
@@ -152,26 +147,26 @@ fn push_free<'a>(
 }
 
 /// Takes the name, and whether it was free.
-fn take<'a>(name: &'a Name, taken: &mut IndexSet<&'a str>) -> Result<bool, OutOfMemory>
+#[tactic(auto, using(crate::proofs::Taking::take_steps))]
+fn take(name: &Name, taken: &mut UidNames) -> Result<bool, OutOfMemory>
     ensures free { IfOk result
-        (λ is_free. is_free ≡ not (is_among (name_bytes name.now) (texts_in taken.old.keys))) }
-    ensures taken { OnOk result (texts_in taken.new.keys
-        ≡ taken_more (texts_in taken.old.keys) (name_bytes name.now)) }
+        (λ is_free. is_free ≡ not (is_among (name_bytes name.now) taken.old)) }
+    ensures taken { OnOk result (taken.new ≡ added (name_bytes name.now) taken.old) }
 {
-    Ok(taken.insert(name.as_str())?)
+    if taken.has(name.as_str()) {
+        return Ok(false);
+    }
+    taken.take(name.as_str())?;
+    Ok(true)
 }
 
 /// The identifiers that are keys of what objects get as their own from these elements.
 #[tactic(auto, using(crate::proofs::Taking::own_steps))]
-fn own_names<'a>(
-    alloc: Global,
-    rules: FieldRules,
-    elements: &'a [Part],
-) -> Result<IndexSet<&'a str>, OutOfMemory>
-    ensures { IfOk result (λ names. (t : List ℕ) → is_among t (texts_in names.keys)
+fn own_names(alloc: Global, rules: FieldRules, elements: &[Part]) -> Result<UidNames, OutOfMemory>
+    ensures { IfOk result (λ names. (t : List ℕ) → is_among t names
         ≡ is_own_name (rules_view rules.entry) (docs_in elements.now) t) }
 {
-    let mut names = IndexSet::new(alloc);
+    let mut names = UidNames::new(alloc);
     for element in elements {
         note(own_name(rules, element), &mut names)?;
     }
@@ -180,15 +175,12 @@ fn own_names<'a>(
 
 /// Adds the name, if there is one.
 #[tactic(auto, using(crate::proofs::Taking::not_noted))]
-fn note<'a>(name: Option<&'a str>, names: &mut IndexSet<&'a str>) -> Result<(), OutOfMemory>
-    ensures { OnOk result ((t : List ℕ) → is_among t (texts_in names.new.keys)
-        ≡ (is_among t (texts_in names.old.keys) || is_name (option_map (λ name. name.now) name.entry) t)) }
+fn note(name: Option<&str>, names: &mut UidNames) -> Result<(), OutOfMemory>
+    ensures { OnOk result ((t : List ℕ) → is_among t names.new
+        ≡ (is_among t names.old || is_name (option_map (λ name. name.now) name.entry) t)) }
 {
     match name {
-        Some(name) => {
-            names.insert(name)?;
-            Ok(())
-        }
+        Some(name) => names.take(name),
         None => Ok(()),
     }
 }

@@ -1,6 +1,7 @@
 //! What is told of a source.
-ghost use Rattle.std.specs.Prelude.{◌≡◌, ◌++◌, IfOk, OnOk, nat_eq};
-ghost use Rattle.indexmap.specs.IndexMap.{insert_entry};
+ghost use Rattle.std.specs.Prelude.{◌≡◌, ◌++◌, IfOk, OnOk};
+ghost use Rattle.std.specs.BTreeMap.{insert_entry};
+ghost use Rattle.std.specs.Ordering.{nat_cmp};
 ghost use Rattle.oxt_facts.specs.Told.{block};
 ghost use Rattle.oxt_options.specs.Facts.{constant_at, is_in};
 ghost use Rattle.oxt_options.specs.Options.{transform_view};
@@ -293,7 +294,7 @@ fn tell_function(
     is_pure: bool,
     told: &mut ToldNodes,
 ) -> Result<(), OutOfMemory>
-    ensures { OnOk result (told.new ≡ insert_entry nat_eq told.old around.now.block (block (record { name = name_bytes around.now.name.now; group = around.now.group; node = around.now.block; is_first = is_first; is_top = is_top; is_pure = is_pure }))) }
+    ensures { OnOk result (told.new ≡ insert_entry nat_cmp told.old around.now.block (block (record { name = name_bytes around.now.name.now; group = around.now.group; node = around.now.block; is_first = is_first; is_top = is_top; is_pure = is_pure }))) }
 {
     match around.name.share() {
         Ok(name) => told.tell(

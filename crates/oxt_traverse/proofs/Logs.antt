@@ -3,10 +3,10 @@ use Rattle.std.proofs.Common.{◌≡◌, refl, sym, ◌∙◌, List, [], ◌∷�
 use Rattle.std.specs.Prelude.{Result, Ok, Err, OnOk}
 use Rattle.oxt_grammar.specs.declared.category.Category.{Category}
 use Rattle.oxt_ctx.specs.Context.{Context}
-use Rattle.oxt_pass.specs.Reached.{at_place, from_place}
-use Rattle.oxt_pass.specs.Level.{IsUntouched}
-use Rattle.oxt_pass.specs.Visits.{HasLogged, Visit, by_kind, by_kind_left, entered, left, traces, visits_by}
-use Rattle.oxt_pass.specs.declared.hook.Hook.{Hook}
+use Rattle.oxt_ctx.specs.Reached.{at_place, from_place}
+use Rattle.oxt_ctx.specs.Level.{IsUntouched}
+use Rattle.oxt_ctx.specs.Visits.{HasLogged, Visit, by_kind, by_kind_left, entered, left, traces, visits_by}
+use Rattle.oxt_ctx.specs.declared.hook.Hook.{Hook}
 use Rattle.oxt_tree.specs.Doc.{Doc}
 
 -- a fact that follows where a call succeeds

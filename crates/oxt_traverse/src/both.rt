@@ -3,9 +3,9 @@
 use crate::dispatch::{run_at_node, run_at_statements};
 use crate::traverse::Traverse;
 use oxt_ctx::context::TraverseCtx;
+use oxt_ctx::hook::Hook;
+use oxt_ctx::pass::Pass;
 use oxt_names::ids::OutOfMemory;
-use oxt_pass::hook::Hook;
-use oxt_pass::pass::Pass;
 use oxt_tree::tree::{Node, Part};
 
 /// A pass that runs two others: at each hook the first before the second. Its log is that of the

@@ -1,16 +1,16 @@
 //! Running the hooks that a node reaches.
 ghost use Rattle.std.specs.Prelude.{◌≡◌, OnOk, true};
-ghost use Rattle.oxt_pass.specs.Level.{IsLevel, IsOpen, IsOpenAt, IsUntouched};
-ghost use Rattle.oxt_pass.specs.Ran.{HasRun};
-ghost use Rattle.oxt_pass.specs.Visits.{HasLogged, entered, left, visits_by};
+ghost use Rattle.oxt_ctx.specs.Level.{IsLevel, IsOpen, IsOpenAt, IsUntouched};
+ghost use Rattle.oxt_ctx.specs.Ran.{HasRun};
+ghost use Rattle.oxt_ctx.specs.Visits.{HasLogged, entered, left, visits_by};
 ghost use Rattle.oxt_tree.specs.Doc.{list};
 ghost use Rattle.oxt_tree.specs.View.{docs_in, node_doc};
 
 use crate::traverse::Traverse;
 use oxt_ctx::context::TraverseCtx;
+use oxt_ctx::hook::{Hook, as_kind, as_left, at_place, from_place};
 use oxt_grammar::category::Category;
 use oxt_names::ids::OutOfMemory;
-use oxt_pass::hook::{Hook, as_kind, as_left, at_place, from_place};
 use oxt_tree::tree::{Node, Part};
 
 /// Runs the hooks that the node reaches before its parts: those of its place, and then those of the

@@ -1,16 +1,16 @@
 //! What a pass does at the nodes of a tree.
 ghost use Rattle.std.specs.Prelude.{◌≡◌, Bool, List, [], OnOk, false, true};
-ghost use Rattle.oxt_pass.specs.Level.{IsOpen, IsOpenAt};
-ghost use Rattle.oxt_pass.specs.Ran.{HasRun};
-ghost use Rattle.oxt_pass.specs.Visits.{Visit};
-ghost use Rattle.oxt_pass.specs.declared.hook.Hook.TheVariants as hook;
+ghost use Rattle.oxt_ctx.specs.Level.{IsOpen, IsOpenAt};
+ghost use Rattle.oxt_ctx.specs.Ran.{HasRun};
+ghost use Rattle.oxt_ctx.specs.Visits.{Visit};
+ghost use Rattle.oxt_ctx.specs.declared.hook.Hook.TheVariants as hook;
 ghost use Rattle.oxt_tree.specs.Doc.{list};
 ghost use Rattle.oxt_tree.specs.View.{docs_in, node_doc};
 
 use oxt_ctx::context::TraverseCtx;
+use oxt_ctx::hook::Hook;
+use oxt_ctx::pass::Pass;
 use oxt_names::ids::OutOfMemory;
-use oxt_pass::hook::Hook;
-use oxt_pass::pass::Pass;
 use oxt_tree::tree::{Node, Part};
 
 /// A pass over a tree: a hook for each place at which a pass may do something. The walk calls it

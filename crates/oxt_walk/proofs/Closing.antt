@@ -6,14 +6,15 @@ use Rattle.std.proofs.lemmas.List.{take-append-drop}
 use Rattle.std.proofs.Math.Seq.{take-append_seam}
 use Rattle.oxt_ctx.specs.Context.{Context}
 use Rattle.oxt_stores.specs.Frame.{Frame, below_top, no_declarators, top_frame}
-use Rattle.oxt_stores.specs.Insertion.{Entry, docs, pending}
-use Rattle.oxt_stores.specs.Placed.{around, found, is_numbered, left, placed, waiting_for, without}
-use Rattle.oxt_pass.specs.Level.{IsUntouched, declared, waits}
+use Rattle.oxt_stores.specs.Insertion.{Entry, docs}
+use Rattle.oxt_injector.specs.Pending.{pending}
+use Rattle.oxt_injector.specs.Placed.{around, found, is_numbered, left, placed, waiting_for, without}
+use Rattle.oxt_ctx.specs.Level.{IsUntouched, declared, waits}
 use Rattle.oxt_tree.specs.Doc.{Doc, nil, flag, number, text, list, node, docs_of}
 use Rattle.oxt_tree.specs.View.{docs_in}
 use Rattle.oxt_tree.specs.declared.tree.Part.{Part}
 use Rattle.oxt_walk.proofs.Steps.{watched_as}
-use Rattle.oxt_walk.specs.Closed.{arrow_body, declarations, imports, with_declarations}
+use Rattle.oxt_traverse.specs.Closed.{arrow_body, declarations, imports, with_declarations}
 use Rattle.oxt_walk.specs.Watched.{IsWatched}
 
 -- nothing waits

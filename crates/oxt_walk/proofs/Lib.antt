@@ -1,4 +1,3 @@
 pub mod Closing
-pub mod Imports
 pub mod Steps
 pub mod Visiting

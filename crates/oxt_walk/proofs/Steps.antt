@@ -4,9 +4,9 @@ use Rattle.std.proofs.Math.ListN.{set}
 use Rattle.std.specs.Prelude.{Result, Ok, Err, OnOk}
 use Rattle.oxt_ctx.specs.Context.{Context}
 use Rattle.oxt_stores.specs.Frame.{frames}
-use Rattle.oxt_stores.specs.Insertion.{pending}
+use Rattle.oxt_injector.specs.Pending.{pending}
 pub use Rattle.oxt_traverse.proofs.Logs.{on_ok, untouched_on, untouched_under}
-use Rattle.oxt_pass.specs.Level.{IsLevel, IsUntouched}
+use Rattle.oxt_ctx.specs.Level.{IsLevel, IsUntouched}
 use Rattle.oxt_tree.specs.Doc.{Doc, Docs, doc}
 use Rattle.oxt_tree.specs.View.{docs_in, part_doc}
 use Rattle.oxt_tree.specs.declared.tree.Part.{Part}

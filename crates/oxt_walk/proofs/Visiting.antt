@@ -12,15 +12,15 @@ use Rattle.oxt_grammar.specs.declared.category.Category.{Category}
 use Rattle.oxt_grammar.specs.declared.holds.Row.{Row}
 use Rattle.oxt_grammar.specs.declared.kind.Kind.{Kind}
 use Rattle.oxt_traverse.proofs.Logs.{Remains, logged_as, logged_on, logged_one, rest_more, rest_none}
-use Rattle.oxt_pass.specs.Visits.{HasLogged, Visit, visit, entered, left}
-use Rattle.oxt_pass.specs.declared.hook.Hook.TheVariants as hook
+use Rattle.oxt_ctx.specs.Visits.{HasLogged, Visit, visit, entered, left}
+use Rattle.oxt_ctx.specs.declared.hook.Hook.TheVariants as hook
 use Rattle.oxt_names.proofs.Lists.{drop_at}
 use Rattle.oxt_tree.proofs.Places.{named_at}
 use Rattle.oxt_tree.specs.Doc.{Doc, nil, list, Docs}
 use Rattle.oxt_tree.specs.Fields.{elements, named}
 use Rattle.oxt_tree.specs.View.{doc_of_part, docs_in, part_doc}
 use Rattle.oxt_tree.specs.declared.tree.Part.{Part}
-use Rattle.oxt_walk.specs.Place.{place_of}
+use Rattle.oxt_traverse.specs.Place.{place_of}
 use Rattle.oxt_walk.specs.Visited.{inside, of_element, of_field, of_statements, visits, visits_each, visits_fields, with_hooks}
 
 drop_suc_set : {A : Type 0} (xs : List A) (i : ℕ) (y : A) → drop (suc i) (set xs i y) ≡ drop (suc i) xs

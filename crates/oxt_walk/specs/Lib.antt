@@ -1,5 +1,2 @@
-pub mod Class
-pub mod Closed
-pub mod Place
 pub mod Visited
 pub mod Watched

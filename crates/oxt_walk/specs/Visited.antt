@@ -4,11 +4,11 @@ use Rattle.oxt_grammar.specs.Field.{Field}
 use Rattle.oxt_grammar.specs.Rows.{row_of}
 use Rattle.oxt_grammar.specs.declared.category.Category.{Category}
 use Rattle.oxt_grammar.specs.declared.category.Category.TheVariants as category
-use Rattle.oxt_pass.specs.Visits.{Visit, visit, entered, left}
-use Rattle.oxt_pass.specs.declared.hook.Hook.TheVariants as hook
+use Rattle.oxt_ctx.specs.Visits.{Visit, visit, entered, left}
+use Rattle.oxt_ctx.specs.declared.hook.Hook.TheVariants as hook
 use Rattle.oxt_tree.specs.Doc.{Doc, nil, flag, number, text, list, node, Docs, no_docs, doc}
 use Rattle.oxt_tree.specs.Fields.{field_of}
-use Rattle.oxt_walk.specs.Place.{is_statements, place_of}
+use Rattle.oxt_traverse.specs.Place.{is_statements, place_of}
 
 -- how many levels of nodes are walked below the program
 abbrev pub walked_levels : ℕ

@@ -1,24 +1,24 @@
 //! The one walk over a tree.
 ghost use Rattle.std.specs.Prelude.{◌≡◌, OnOk, codes};
-ghost use Rattle.oxt_pass.specs.Level.{IsLevel, IsOpen, IsUntouched};
-ghost use Rattle.oxt_pass.specs.Visits.{HasLogged};
+ghost use Rattle.oxt_ctx.specs.Level.{IsLevel, IsOpen, IsUntouched};
+ghost use Rattle.oxt_ctx.specs.Visits.{HasLogged};
 ghost use Rattle.oxt_tree.specs.Doc.{list};
 ghost use Rattle.oxt_tree.specs.Fields.{field_of};
 ghost use Rattle.oxt_tree.specs.View.{docs_in, node_doc, part_doc};
 ghost use Rattle.oxt_walk.specs.Watched.{IsWatched};
-ghost use Rattle.oxt_walk.specs.Place.{place_of as place_held};
+ghost use Rattle.oxt_traverse.specs.Place.{place_of as place_held};
 ghost use Rattle.oxt_walk.specs.Visited.{inside, of_body, of_element, of_field, of_statements, visits, visits_each, visits_of_program};
 
-use crate::body::close_expression;
-use crate::close::{close_statements, open_list};
-use crate::place::{is_body, is_statements, place_of};
-use crate::record::{go_into, go_out};
 use oxt_ctx::context::TraverseCtx;
 use oxt_grammar::category::Category;
 use oxt_grammar::field::Field;
 use oxt_grammar::holds::Holds;
 use oxt_names::ids::OutOfMemory;
+use oxt_traverse::body::close_expression;
+use oxt_traverse::close::{close_statements, open_list};
 use oxt_traverse::dispatch::{enter_node, leave_node};
+use oxt_traverse::place::{is_body, is_statements, place_of};
+use oxt_traverse::record::{go_into, go_out};
 use oxt_traverse::traverse::Traverse;
 use oxt_tree::fields;
 use oxt_tree::tree::{Node, Part};

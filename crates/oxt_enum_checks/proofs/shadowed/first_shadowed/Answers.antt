@@ -4,7 +4,7 @@ use Rattle.oxt_tree.specs.View.{node_doc}
 use Rattle.oxt_enum_checks.proofs.Memberless.{no_shadows}
 use Rattle.oxt_enum_checks.proofs.ShadowSites.{all_at_enums, said}
 use Rattle.oxt_enum_checks.specs.Shadows.{least, shadow_views}
-use Rattle.oxt_sites.specs.Sites.{said_of_each}
+use Rattle.oxt_declares.specs.Sites.{said_of_each}
 use Rattle.oxt_enum_checks.proofs.shadowed.first_shadowed.Goals as goal
 
 pub returns-then-not-has_members : goal.returns-then-not-has_members

@@ -2,7 +2,7 @@
 use Rattle.std.proofs.Common.{◌≡◌, ◌++◌, drop}
 use Rattle.oxt_enum_checks.proofs.ShadowSites.{said, site_docs}
 use Rattle.oxt_enum_checks.specs.Shadows.{shadow_views}
-use Rattle.oxt_sites.specs.Sites.{said_of_each}
+use Rattle.oxt_declares.specs.Sites.{said_of_each}
 use Rattle.oxt_enum_checks.proofs.shadowed.shadowed_at.Given as goal
 
 abbrev pub invariant-loop-i : goal.invariant-loop-i

@@ -5,4 +5,4 @@ use Rattle.oxt_facts.specs.Groups.{groups_met}
 use Rattle.oxt_facts.proofs.groups.groups_met.Given as goal
 
 abbrev pub invariant-loop-item : goal.invariant-loop-item
-invariant-loop-item l = groups_met [] (entries l.items) ≡ groups_met l.met.keys (entries (drop l.item-index l.items))
+invariant-loop-item l = groups_met [] (entries l.items) ≡ groups_met l.met (entries (drop l.item-index l.items))

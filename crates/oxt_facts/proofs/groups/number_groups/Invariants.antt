@@ -6,4 +6,4 @@ use Rattle.oxt_facts.proofs.Declared.{so_far}
 use Rattle.oxt_facts.proofs.groups.number_groups.Given as goal
 
 abbrev pub invariant-loop-i : goal.invariant-loop-i
-invariant-loop-i l = numbered_groups (entries l.initial.items.items) ≡ so_far l.met.keys l.i l.items.items
+invariant-loop-i l = numbered_groups (entries l.initial.items.items) ≡ so_far l.met l.i l.items.items

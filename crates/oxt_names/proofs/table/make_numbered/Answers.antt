@@ -26,4 +26,4 @@ returns-clause-first c =
 pub returns-clause-names : goal.returns-clause-names
 returns-clause-names c =
     one_more (spellings c.args.table.now.entries) (spellings c.put.new.table.entries) (spellings c.put-2.new.table.entries) (string_bytes c.args.base) (string_bytes c.in_ok-free.free.text) (name_bytes c.in_ok-name.name)
-    (c.in_ok-name.ensures ∙ c.as_str-2.ensures.value) c.in_ok-put.ensures.names c.in_ok-put-2.ensures.names c.requires.taken c.in_ok-free.ensures.free
+    (c.in_ok-name.ensures ∙ c.as_str-2.ensures.value) c.in_ok-put.ensures.names c.in_ok-put-2.ensures.names c.requires.taken

@@ -1,7 +1,7 @@
 -- What is left decides.
-use Rattle.std.proofs.Common.{◌≡◌, drop}
+use Rattle.std.proofs.Common.{◌≡◌}
 use Rattle.oxt_scopes.specs.Stack.{seen_at}
 use Rattle.oxt_scopes.proofs.look.seen_among.Given as goal
 
-abbrev pub invariant-loop-i : goal.invariant-loop-i
-invariant-loop-i l = seen_at l.name l.names.entries ≡ seen_at l.name (drop l.i l.names.entries)
+abbrev pub invariant-loop-own : goal.invariant-loop-own
+invariant-loop-own l = seen_at l.name l.names.entries ≡ seen_at l.name l.own-iterator

@@ -8,4 +8,4 @@ use Rattle.oxt_tree.specs.View.{docs_in}
 use Rattle.oxt_told.proofs.properties.free_names.Given as goal
 
 abbrev pub invariant-loop-property : goal.invariant-loop-property
-invariant-loop-property l = free_names (is_own_name (rules_view l.rules) (docs_in l.elements)) (map (λ p. p.name) (bound_views l.properties)) ≡ free_so_far l.fields.items l.taken.keys (drop l.property-index l.properties)
+invariant-loop-property l = free_names (is_own_name (rules_view l.rules) (docs_in l.elements)) (map (λ p. p.name) (bound_views l.properties)) ≡ free_so_far l.fields.items l.taken (drop l.property-index l.properties)

@@ -1,6 +1,6 @@
-use Rattle.std.proofs.Common.{sym}
-use Rattle.oxt_told.proofs.Taking.{noted}
+-- A name is noted.
+use Rattle.oxt_told.proofs.Taking.{noted_by}
 use Rattle.oxt_told.proofs.properties.note.Goals as goal
 
-pub returns-in_ok-insert-in-Some : goal.returns-in_ok-insert-in-Some
-returns-in_ok-insert-in-Some c = noted c.in-Some.name c.args.name c.args.names.now.keys c.insert.new.self.keys (sym c.in-Some.is) c.in_ok-insert-in-Some.ensures.keys
+pub returns-in-Some : goal.returns-in-Some
+returns-in-Some c = noted_by c.take.result c.args.name c.in-Some.name c.args.names.now c.take.new.self c.in-Some.is c.take.ensures.added

@@ -1,6 +1,6 @@
 use Rattle.std.proofs.Common.{◌≡◌, true, ap}
 use Rattle.oxt_traverse.proofs.Logs.{left_logged, on_ok}
-use Rattle.oxt_pass.specs.Visits.{visits_by}
+use Rattle.oxt_ctx.specs.Visits.{visits_by}
 use Rattle.oxt_tree.specs.View.{node_doc}
 use Rattle.oxt_traverse.proofs.dispatch.leave_node.Goals as goal
 

@@ -1,8 +1,8 @@
 -- So far all is as the hooks leave it, and the hooks from the place on are left.
 use Rattle.std.proofs.Common.{◌≡◌, drop, true}
 use Rattle.oxt_traverse.proofs.Logs.{Remains}
-use Rattle.oxt_pass.specs.Level.{IsLevel, IsUntouched}
-use Rattle.oxt_pass.specs.Visits.{visits_by}
+use Rattle.oxt_ctx.specs.Level.{IsLevel, IsUntouched}
+use Rattle.oxt_ctx.specs.Visits.{visits_by}
 use Rattle.oxt_tree.specs.View.{node_doc}
 use Rattle.oxt_traverse.proofs.dispatch.run_wanted.Given as goal
 

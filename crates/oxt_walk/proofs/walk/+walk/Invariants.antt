@@ -2,7 +2,7 @@
 use Rattle.std.proofs.Common.{◌≡◌, ◌+◌, ◌*◌, drop, length, map}
 use Rattle.oxt_grammar.specs.Field.{row_view}
 use Rattle.oxt_traverse.proofs.Logs.{Remains}
-use Rattle.oxt_pass.specs.Level.{IsLevel, IsUntouched}
+use Rattle.oxt_ctx.specs.Level.{IsLevel, IsUntouched}
 use Rattle.oxt_tree.specs.Doc.{list}
 use Rattle.oxt_tree.specs.View.{docs_in, node_doc}
 use Rattle.oxt_walk.specs.Visited.{visits_each, visits_fields}

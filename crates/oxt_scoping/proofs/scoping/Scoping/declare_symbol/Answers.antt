@@ -1,7 +1,6 @@
 -- The scope that binds the symbol is there.
-use Rattle.std.proofs.Common.{◌<◌, ◌≡◌, ◌∙◌, [], ◌∷◌, ◌++◌, ap, arith, length, nat_eq, subst, sym}
+use Rattle.std.proofs.Common.{◌<◌, ◌≡◌, ◌∙◌, [], ◌∷◌, ◌++◌, ap, arith, length, subst, sym}
 use Rattle.std.proofs.Common.{string_bytes}
-use Rattle.indexmap.specs.IndexMap.{insert_entry}
 use Rattle.oxt_scoping.specs.Entries.{SymbolData}
 use Rattle.oxt_scoping.specs.Scoped.{Scoped}
 use Rattle.oxt_scoping.proofs.Sound.{sound_symbol, table_of}
@@ -11,7 +10,6 @@ pub invariant_of-self-2 : goal.invariant_of-self-2
 invariant_of-self-2 c =
     let outer : c.args.scope.0 < length c.self.inside.scopes.items = subst (λ (s : Scoped). c.args.scope.0 < length s.scopes) (sym c.self.view_is) c.requires in
     let scope : c.in_ok-entry.entry.scope ≡ c.args.scope = ap (λ (y : SymbolData). y.scope) c.in_ok-entry.ensures in
-    sound_symbol (table_of c.self.inside) c.args.declaration.node.0 (record { 0 = c.len.result }) (string_bytes c.in_ok-key.key) c.in_ok-entry.entry c.bind_in.new.scopes.items c.push_reserved.new.list.items c.put_reserved.new.table.entries c.self.invariant
-    (rw scope outer) (ap (λ (y : SymbolData). y.bodies) c.in_ok-entry.ensures) (omega (arith, c.len.ensures, c.self.inside.symbols.ok.0)) (rw scope c.in_ok-bind_in.ensures.bound)
-    (c.push_reserved.ensures ∙ ap (λ ys. ys ++ c.in_ok-entry.entry ∷ []) c.in_ok-reserve.ensures.items)
-    (c.put_reserved.ensures ∙ ap (λ es. insert_entry nat_eq es c.args.declaration.node.0 (record { 0 = c.len.result })) c.in_ok-reserve-2.ensures.entries)
+    sound_symbol (table_of c.self.inside) c.args.declaration.node.0 (record { 0 = c.len.result }) (string_bytes c.in_ok-key.key) c.in_ok-entry.entry c.bind_in.new.scopes.items c.push_reserved.new.list.items c.put_at.new.table.entries c.self.invariant
+    (rw scope outer) (ap (λ (y : SymbolData). y.bodies) c.in_ok-entry.ensures) (omega (arith, c.len.ensures, c.self.inside.symbols.ok.0)) (rw scope c.in_default.ensures.bound)
+    (c.push_reserved.ensures ∙ ap (λ ys. ys ++ c.in_ok-entry.entry ∷ []) c.in_ok-reserve.ensures.items) c.in_ok-before.ensures.put

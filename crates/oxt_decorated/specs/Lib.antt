@@ -1,4 +1,0 @@
-pub mod PrivateIn
-pub mod Statics
-pub mod Storage
-pub mod Text

@@ -1,0 +1,2 @@
+pub mod DroppedEnums
+pub mod Needed

@@ -1,4 +1,0 @@
-pub mod Level
-pub mod Ran
-pub mod Reached
-pub mod Visits

@@ -1,3 +1,0 @@
-pub mod Outside
-mod Eaches
-mod Finds

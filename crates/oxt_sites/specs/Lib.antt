@@ -1,3 +1,0 @@
-pub mod DocSet
-pub mod Quiet
-pub mod Sites
