@@ -18,7 +18,7 @@ use Rattle.oxt_enum_checks.specs.Clash.{first_clash, least_clash}
 use Rattle.oxt_enum_checks.specs.First.{first_blocks, numbers_of}
 use Rattle.oxt_enum_checks.specs.LateBase.{late_base, least_late}
 use Rattle.oxt_enum_checks.specs.Misused as misuse
-use Rattle.oxt_enum_checks.specs.Misused.{HasNoWrittenMember, by_number, by_value, is_misused_as, is_misused_use, misused, misused_at, names_element}
+use Rattle.oxt_enum_checks.specs.Misused.{HasNoWrittenMember, is_misused_as, is_misused_use, misused, misused_at, names_element}
 use Rattle.oxt_enum_checks.specs.Places.{Placed, places_of}
 use Rattle.oxt_enum_checks.specs.Sought.{sought_blocks}
 use Rattle.oxt_enum_checks.specs.declared.sought.Sought.{Sought}
@@ -51,6 +51,7 @@ use Rattle.oxt_modules.specs.Jsx.{jsx_use, use_of}
 use Rattle.oxt_modules.specs.declared.jsx.JsxNode.TheVariants as jsx_node
 use Rattle.oxt_declares.specs.Imports.{is_required}
 use Rattle.oxt_names.specs.declared.ids.ReferenceId.{ReferenceId}
+use Rattle.oxt_scoping.specs.Meant.{by_value, reference_in}
 use Rattle.oxt_scoping.specs.Scoped.{Scoped, at_node, live_at, still}
 use Rattle.oxt_scoping.specs.declared.entry.Reference.{Reference}
 use Rattle.std.specs.Int.RustNames.{bit_and}
@@ -366,7 +367,7 @@ names_element_is_form k h =
     (among_last (same_kind k kind.JSXOpeningElement) (same_kind k kind.JSXClosingElement) (same_kind k kind.JSXMemberExpression) h)))))
 
 -- what a name is used as is what its reference says
-not_written : (s : Scoped) → HasNoWrittenMember s → (o : Option ReferenceId) → is_misused_use s false (by_number s o) ≡ false
+not_written : (s : Scoped) → HasNoWrittenMember s → (o : Option ReferenceId) → is_misused_use s false (by_value (reference_in s.references o)) ≡ false
 not_written s none None = refl
 not_written s none (Some r) = by (live_at s.references r.0) (none r.0)
   where

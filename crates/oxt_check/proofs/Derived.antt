@@ -2,10 +2,10 @@
 use Rattle.std.proofs.Common.{◌≡◌, ◌∙◌, refl, sym, ap, ℕ, ◌+◌, ◌<◌, ◌≤◌, List, [], ◌∷◌, ◌++◌, map, length, drop, get_or, append_assoc, append-nil, Bool, true, false, ◌||◌, cond, Option, None, Some, true≢false}
 use Rattle.std.proofs.lemmas.List.{map-append}
 use Rattle.std.specs.Prelude.{codes}
-use Rattle.oxt_check.specs.Occurring.{blocks_among, form_at, forms, forms_of, is_form, listed_form, listed_forms, occurring}
+use Rattle.oxt_check.specs.Occurring.{blocks_among, form_at, forms_of, is_form, listed_form, listed_forms, occurring}
 use Rattle.oxt_check.specs.declared.survey.Form.{Form}
 use Rattle.oxt_check.proofs.Absences.{block_kind_is_form}
-use Rattle.oxt_enum_checks.specs.Blocks.{block_with, blocks, blocks_of, is_block_kind, own_block}
+use Rattle.oxt_enum_checks.specs.Blocks.{block_with, blocks_of, is_block_kind, own_block}
 use Rattle.oxt_enum_checks.specs.declared.blocks.Block.{Block}
 use Rattle.oxt_grammar.specs.declared.kind.Kind.{Kind}
 use Rattle.oxt_names.proofs.Lists.{drop_at, drop_end}

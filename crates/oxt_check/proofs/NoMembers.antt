@@ -9,12 +9,11 @@ use Rattle.oxt_check.proofs.Formless.{GivesAtAlone, apart, none_in, other_kind}
 use Rattle.oxt_declares.specs.Dropped.{is_declared_field, is_dropped_by}
 use Rattle.oxt_enum_checks.specs.Around.{enum_in, within}
 use Rattle.oxt_enum_checks.specs.Members as members
-use Rattle.oxt_enum_checks.specs.Members.{Member, member_in, member_of, members_of}
+use Rattle.oxt_enum_checks.specs.Members.{member_in, member_of, members_of}
 use Rattle.oxt_enum_checks.specs.Misnamed.{first_repeated, lesser, misnamed}
 use Rattle.oxt_enum_checks.specs.Misused.{misused}
 use Rattle.oxt_enum_checks.specs.Shadows.{Shadow, all_among, all_at, all_shadows, initializer_shadows, least, left_all, member_shadows, shadowed}
 use Rattle.oxt_grammar.specs.Field.{Field}
-use Rattle.oxt_grammar.specs.Places.{same_kind}
 use Rattle.oxt_grammar.specs.Rows.{row_of}
 use Rattle.oxt_grammar.specs.declared.kind.Kind.{Kind}
 use Rattle.oxt_grammar.specs.declared.kind.Kind.TheVariants as kind

@@ -15,7 +15,6 @@ use oxt_faults::misplaced::{Misplaced, MisplacedKind, first_misplaced};
 use oxt_fields::rules::FieldRules;
 use oxt_names::ids::{NodeId, OutOfMemory};
 use oxt_scoping::scoping::Scoping;
-use oxt_tree::tree::Node;
 use std::alloc::Global;
 
 /// The misplaced node of the least number: what stands where it may not, a function or class behind a namespace of its

@@ -2,7 +2,7 @@
 //! need not be made.
 ghost use Rattle.std.specs.Prelude.{◌≡◌, ◌++◌, IfOk, OnOk, map, true};
 ghost use Rattle.std.specs.List.{list_any};
-ghost use Rattle.oxt_check.specs.Occurring.{blocks_among, form_kinds, form_with, forms_of, has_block, has_block_among, has_class, has_jsx, is_form, listed_form, listed_forms, makes_names, names_elements, occurring, occurs};
+ghost use Rattle.oxt_check.specs.Occurring.{blocks_among, form_kinds, forms_of, has_block, has_block_among, has_class, has_jsx, is_form, listed_form, listed_forms, makes_names, names_elements, occurring, occurs};
 ghost use Rattle.oxt_check.specs.declared.survey.Form.{Form};
 ghost use Rattle.oxt_enum_checks.specs.Blocks.{blocks_of};
 ghost use Rattle.oxt_enum_checks.specs.Places.{places_in, places_of};

@@ -2,7 +2,7 @@
 use Rattle.std.proofs.Common.{◌≡◌, refl, ℕ, zero, suc, ◌<◌, ◌≤◌, List, [], ◌∷◌, length, get_or, ap, arith}
 use Rattle.std.specs.List.{slice_get}
 use Rattle.oxt_tree.specs.Doc.{nil}
-use Rattle.oxt_tree.specs.View.{doc_of_part, docs_in, part_doc}
+use Rattle.oxt_tree.specs.View.{doc_of_part, part_doc}
 use Rattle.oxt_tree.specs.declared.tree.Part.{Part}
 
 -- there is a part at the place

@@ -1,5 +1,5 @@
 -- Static blocks that are made.
-use Rattle.std.specs.Prelude.{ℕ, length, Some, unwrap_or}
+use Rattle.std.specs.Prelude.{ℕ, unwrap_or}
 use Rattle.oxt_grammar.specs.declared.kind.Kind.TheVariants as kind
 use Rattle.oxt_names.specs.declared.flags.ScopeFlags.{ScopeFlags}
 use Rattle.oxt_names.specs.declared.ids.ScopeId.{ScopeId}

@@ -7,7 +7,7 @@ use Rattle.oxt_names.specs.declared.ids.SymbolId.{SymbolId}
 use Rattle.oxt_stores.specs.Frame.{binding}
 use Rattle.oxt_tree.specs.Doc.{Doc, nil, list, no_docs, doc}
 use Rattle.oxt_ctx.specs.Context.{Context}
-use Rattle.oxt_ctx.specs.Made.{after, made_in, reference, with_ids, with_uid, with_use}
+use Rattle.oxt_ctx.specs.Made.{reference, with_ids, with_uid, with_use}
 use Rattle.oxt_ctx.specs.Functions.{function_body, function_of, in_function, method, reading, with_function}
 use Rattle.oxt_ctx.specs.Nodes.{call, made, property_name, statement}
 

@@ -78,8 +78,7 @@ fn symbol_meant(scoping: &Scoping, node: NodeId) -> Option<SymbolId>
     ensures meant { result ≡ symbol_meant node scoping.now }
     ensures live { IfSome result (λ meant. meant.0 < length scoping.now.symbols) }
 {
-    let reference = scoping.reference_of(node)?;
-    let symbol = scoping.get_reference(reference).symbol?;
+    let symbol = scoping.meaning_of(node)?;
     if scoping.has_symbol(symbol) {
         Some(symbol)
     } else {

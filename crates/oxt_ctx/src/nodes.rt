@@ -6,7 +6,7 @@ ghost use Rattle.oxt_stores.specs.Frame.{binding, declarator};
 ghost use Rattle.oxt_grammar.specs.Words.{text_of};
 ghost use Rattle.oxt_grammar.specs.declared.kind.Kind.TheVariants as kind;
 ghost use Rattle.oxt_names.specs.Names.{name_bytes};
-ghost use Rattle.oxt_tree.specs.View.{docs_in, node_doc, part_doc};
+ghost use Rattle.oxt_tree.specs.View.{docs_in, node_doc};
 
 use oxt_grammar::kind::Kind;
 use oxt_grammar::word::Word;

@@ -1,12 +1,10 @@
 -- Which bodies name a class.
-use Rattle.std.specs.Prelude.{ℕ, Bool, false, not, ◌&&◌, ◌==◌, List, [], ◌∷◌, ◌++◌, Option, None, Some}
-use Rattle.std.specs.Int.RustNames.{bit_and}
+use Rattle.std.specs.Prelude.{ℕ, Bool, false, ◌&&◌, ◌==◌, List, [], ◌∷◌, ◌++◌, Option, None, Some}
 use Rattle.std.specs.List.{list_any}
 use Rattle.oxt_grammar.specs.declared.category.Category.TheVariants as category
-use Rattle.oxt_names.specs.declared.ids.ReferenceId.{ReferenceId}
 use Rattle.oxt_names.specs.declared.ids.SymbolId.{SymbolId}
-use Rattle.oxt_scoping.specs.Scoped.{Scoped, at_node, live_at, still}
-use Rattle.oxt_scoping.specs.declared.entry.Reference.{Reference}
+use Rattle.oxt_scoping.specs.Meant.{value_meant}
+use Rattle.oxt_scoping.specs.Scoped.{Scoped}
 use Rattle.oxt_tree.specs.Doc.{Doc, node}
 use Rattle.oxt_visit.specs.Calls.{Call, visited, entered, left}
 use Rattle.oxt_visit.specs.Hooks.{used_names}
@@ -17,21 +15,9 @@ abbrev pub is_symbol : SymbolId → Option SymbolId → Bool
 is_symbol y None = false
 is_symbol y (Some x) = x.0 == y.0
 
--- a use of the symbol as a value
-abbrev pub is_value_use : SymbolId → Reference → Bool
-is_value_use y r = not (not (bit_and r.flags.0 4 == 0)) && is_symbol y r.symbol
-
-abbrev pub is_live_use : SymbolId → Option Reference → Bool
-is_live_use y None = false
-is_live_use y (Some r) = is_value_use y r
-
-abbrev pub is_use : Scoped → SymbolId → Option ReferenceId → Bool
-is_use s y None = false
-is_use s y (Some i) = is_live_use y (live_at s.references i.0)
-
 -- The name that is the node of that number means the symbol, as a value.
 abbrev pub means : Scoped → SymbolId → ℕ → Bool
-means s y n = is_use s y (still s.references (at_node (record { 0 = n }) s.named))
+means s y n = is_symbol y (value_meant s n)
 
 -- the number of a node
 abbrev pub number_of : Doc → List ℕ

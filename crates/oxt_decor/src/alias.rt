@@ -13,23 +13,20 @@
 //! ```
 ghost use Rattle.std.specs.Prelude.{◌≡◌, ◌<◌, IfOk, OnOk, is_some, length};
 ghost use Rattle.std.specs.List.{list_any};
-ghost use Rattle.oxt_decor.specs.Named.{is_symbol, is_value_use, means, names_class};
+ghost use Rattle.oxt_decor.specs.Named.{is_symbol, means, names_class};
 ghost use Rattle.oxt_stores.specs.Frame.{frames};
 ghost use Rattle.oxt_tree.specs.View.{node_doc};
 
 use crate::shorthand::open_shorthands;
 use crate::used::used_names;
-use bitflags::Flags;
 use oxt_ctx::context::TraverseCtx;
 use oxt_ctx::nodes::reference;
 use oxt_ctx::parts::child_mut;
 use oxt_ctx::uid::create_uid_var;
 use oxt_grammar::field::Field;
-use oxt_names::flags::ReferenceFlags;
 use oxt_names::ids::{NodeId, NodeIds, OutOfMemory, SymbolId};
 use oxt_names::name::Name;
 use oxt_options::plan::Plan;
-use oxt_scoping::entry::Reference;
 use oxt_scoping::scoping::Scoping;
 use oxt_stores::bound::BoundIdentifier;
 use oxt_tree::tree::Node;
@@ -221,17 +218,7 @@ fn is_any_use(names: &[u64], symbol: SymbolId, scoping: &Scoping) -> bool
 fn means(name: NodeId, symbol: SymbolId, scoping: &Scoping) -> bool
     ensures { result ≡ means scoping.now symbol name.0 }
 {
-    match scoping.reference_of(name) {
-        Some(reference) => is_value_use(scoping.get_reference(reference), symbol),
-        None => false,
-    }
-}
-
-/// Whether the reference means the symbol, as a value.
-fn is_value_use(reference: &Reference, symbol: SymbolId) -> bool
-    ensures { result ≡ is_value_use symbol reference.now }
-{
-    !reference.flags.intersects(ReferenceFlags::TypeUse) && is_symbol(reference.symbol, symbol)
+    is_symbol(scoping.value_meaning_of(name), symbol)
 }
 
 /// Whether it is that symbol.

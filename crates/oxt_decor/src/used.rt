@@ -16,7 +16,6 @@ struct UsedNames {
 }
 
 impl VisitMut for UsedNames {
-    ghost use Rattle.std.specs.Prelude.{map};
     ghost use Rattle.oxt_decor.specs.Named.{as_number, name_noted};
     ghost use Rattle.oxt_tree.specs.Doc.{Doc};
     ghost use Rattle.oxt_visit.specs.Reading.{same_list, same_node, whole};

@@ -4,13 +4,13 @@ use Rattle.std.specs.Prelude.{is_some, slice_get}
 use Rattle.oxt_dropped.specs.Needed.{emits_by, is_enum_emitted, needed, needed_with, number_of, value_of}
 use Rattle.oxt_inline.proofs.Tables.{same_named}
 use Rattle.oxt_inline.specs.Constants.{constants_in}
-use Rattle.oxt_inline.specs.Names.{symbol_in}
 use Rattle.oxt_inline.specs.Values.{Named}
 use Rattle.oxt_names.specs.Constant.{Constant}
 use Rattle.oxt_names.specs.declared.flags.SymbolFlags.{SymbolFlags}
 use Rattle.oxt_names.specs.declared.ids.SymbolId.{SymbolId}
 use Rattle.oxt_options.specs.Options.{TypeScriptData}
 use Rattle.oxt_scoping.specs.Entries.{SymbolData, is_enum}
+use Rattle.oxt_scoping.specs.Meant.{symbol_in}
 use Rattle.oxt_scoping.specs.Scoped.{Scoped}
 use Rattle.oxt_scoping.specs.declared.entry.Redeclaration.{Redeclaration}
 use Rattle.oxt_tree.specs.Doc.{Doc}

@@ -1,6 +1,5 @@
 -- Symbols of enums that cannot be dropped.
 use Rattle.std.specs.Prelude.{ℕ, List, Bool, false, not, ◌&&◌, ◌||◌, ◌==◌, if◌then◌else◌, Option, None, Some, is_some, slice_get, codes}
-use Rattle.std.specs.Int.RustNames.{bit_and}
 use Rattle.std.specs.List.{list_any}
 use Rattle.std.specs.Str.{bytes_eq}
 use Rattle.oxt_grammar.specs.Field.{Field}
@@ -10,18 +9,17 @@ use Rattle.oxt_grammar.specs.declared.kind.Kind.TheVariants as kind
 use Rattle.oxt_inline.specs.Inlined.{constant_at}
 use Rattle.oxt_inline.specs.Seats.{is_constant, is_exported, is_left_out, is_name, seat_by, seat_in}
 use Rattle.oxt_inline.specs.Constants.{constants_in}
-use Rattle.oxt_inline.specs.Names.{named_symbol, symbol_in}
+use Rattle.oxt_inline.specs.Names.{named_symbol}
 use Rattle.oxt_inline.specs.Values.{Named}
 use Rattle.oxt_inline.specs.declared.seat.Seat.{Seat}
 use Rattle.oxt_inline.specs.declared.seat.Seat.TheVariants as seat
 use Rattle.oxt_names.specs.Constant.{Constant}
-use Rattle.oxt_names.specs.declared.ids.ReferenceId.{ReferenceId}
 use Rattle.oxt_names.specs.declared.ids.SymbolId.{SymbolId}
 use Rattle.oxt_options.specs.Options.{TypeScriptData}
 use Rattle.oxt_scoping.specs.Entries.{SymbolData, is_enum}
-use Rattle.oxt_scoping.specs.Scoped.{Scoped, at_node, live_at, still}
+use Rattle.oxt_scoping.specs.Meant.{symbol_in, value_meant}
+use Rattle.oxt_scoping.specs.Scoped.{Scoped, at_node}
 use Rattle.oxt_scoping.specs.declared.entry.Redeclaration.{Redeclaration}
-use Rattle.oxt_scoping.specs.declared.entry.Reference.{Reference}
 use Rattle.oxt_search.specs.All.{all_in}
 use Rattle.oxt_search.specs.Sought.{Sought}
 use Rattle.oxt_tree.specs.declared.inside.Inside.{Inside}
@@ -32,22 +30,6 @@ use Rattle.oxt_declares.specs.Dropped.{inside_dropped_by, is_dropped_by}
 
 abbrev pub number_of : SymbolId → ℕ
 number_of i = i.0
-
--- ---- uses of names
-
--- the symbol that a use as a value means
-abbrev pub meant_by_value : Option Reference → Option SymbolId
-meant_by_value None = None
-meant_by_value (Some r) = if bit_and r.flags.0 4 == 4 then None else r.symbol
-
--- the same of a reference by its number
-abbrev pub meant_by_number : Scoped → Option ReferenceId → Option SymbolId
-meant_by_number s None = None
-meant_by_number s (Some r) = meant_by_value (live_at s.references r.0)
-
--- the symbol that the node of that number means, if it is used as a value
-abbrev pub value_meant : Scoped → ℕ → Option SymbolId
-value_meant s n = meant_by_number s (still s.references (at_node (record { 0 = n }) s.named))
 
 -- ---- blocks
 

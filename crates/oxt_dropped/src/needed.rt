@@ -2,7 +2,7 @@
 ghost use Rattle.std.specs.List.{list_any};
 ghost use Rattle.std.specs.Prelude.{◌≡◌, ◌<◌, ℕ, IfOk, Some, length, map, option_map, slice_get};
 ghost use Rattle.oxt_grammar.specs.Field.{row_view};
-ghost use Rattle.oxt_dropped.specs.Needed.{are_loose, emits_by, emitted_by, field_seat, has_loose_member, has_value, inside_of, is_enum_emitted, is_kept, is_left, is_loose, kept_by, needed, needed_by, needed_with, number_of, seat_inside, sought, value_meant};
+ghost use Rattle.oxt_dropped.specs.Needed.{are_loose, emits_by, emitted_by, field_seat, has_loose_member, has_value, inside_of, is_enum_emitted, is_kept, is_left, is_loose, kept_by, needed, needed_by, needed_with, number_of, seat_inside, sought};
 ghost use Rattle.oxt_inline.specs.Constants.{table_at};
 ghost use Rattle.oxt_scoping.specs.Entries.{is_enum};
 ghost use Rattle.oxt_options.specs.Facts.{is_in};
@@ -18,7 +18,7 @@ use oxt_inline::constants::Constants;
 use oxt_inline::inlined::constant_at;
 use oxt_inline::names::named_symbol;
 use oxt_inline::seat::{Seat, is_constant, is_exported, is_left_out, is_name, seat_by, seat_in};
-use oxt_names::flags::{ReferenceFlags, SymbolFlags};
+use oxt_names::flags::SymbolFlags;
 use oxt_names::ids::{NodeId, OutOfMemory, SymbolId};
 use oxt_options::TypeScriptOptions;
 use oxt_options::nodes::NodeList;
@@ -167,7 +167,7 @@ fn needed_by(scoping: &Scoping, seat: Seat, node: &Node) -> Option<SymbolId>
     } else if node.kind.is(Kind::BindingIdentifier) {
         emitted_by(scoping, seat, node.id)
     } else {
-        value_meant(scoping, node.id)
+        scoping.value_meaning_of(node.id)
     }
 }
 
@@ -271,16 +271,4 @@ fn emits_by(declarations: &[Redeclaration], node: NodeId) -> bool
     ensures { result ≡ emits_by declarations.now node.0 }
 {
     declarations.iter().any(|declaration| declaration.node.0 == node.0 && declaration.emits)
-}
-
-/// The symbol that the node of that number means, if it is used as a value.
-fn value_meant(scoping: &Scoping, node: NodeId) -> Option<SymbolId>
-    ensures { result ≡ value_meant scoping.now node.0 }
-{
-    let reference = scoping.get_reference(scoping.reference_of(node)?);
-    if reference.flags.contains(ReferenceFlags::TypeUse) {
-        None
-    } else {
-        reference.symbol
-    }
 }

@@ -1,5 +1,5 @@
 -- One field of a node alone.
-use Rattle.std.proofs.Common.{arith, ℕ, zero, suc, length, ◌≤◌, ◌≡◌, refl, sym, ap, ◌∙◌, List, [], ◌∷◌, ◌++◌, map, Bool, true, false, cond, slice_get, Option, None, Some, append-nil}
+use Rattle.std.proofs.Common.{arith, ℕ, zero, suc, length, ◌≤◌, ◌≡◌, refl, sym, ap, ◌∙◌, List, [], ◌∷◌, ◌++◌, map, Bool, true, false, cond, slice_get, Option, None, append-nil}
 use Rattle.std.specs.List.{position_from}
 use Rattle.std.specs.Prelude.{codes}
 use Rattle.std.specs.Str.{bytes_eq}

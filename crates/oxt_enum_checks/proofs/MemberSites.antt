@@ -1,15 +1,12 @@
 -- Members of enums stand in enums.
-use Rattle.std.proofs.Common.{◌≡◌, ap, ℕ, Bool, false, Option, None, cond}
+use Rattle.std.proofs.Common.{◌≡◌, ap, Bool, Option, None, cond}
 use Rattle.std.specs.Prelude.{codes}
 use Rattle.oxt_enum_checks.specs.Around.{enum_in, symbol_of_name, within}
-use Rattle.oxt_enum_checks.specs.Members.{Member, member_in, member_of, sought}
-use Rattle.oxt_grammar.specs.declared.kind.Kind.{Kind}
+use Rattle.oxt_enum_checks.specs.Members.{member_in, member_of, sought}
 use Rattle.oxt_names.specs.declared.ids.SymbolId.{SymbolId}
 use Rattle.oxt_scoping.specs.Scoped.{Scoped}
 use Rattle.oxt_declares.proofs.Outside.{no_enum, no_member, passing_over}
 use Rattle.oxt_declares.specs.Quiet.{IsQuietOutside}
-use Rattle.oxt_declares.specs.Sites.{is_site}
-use Rattle.oxt_tree.specs.Doc.{Docs}
 use Rattle.oxt_tree.specs.Fields.{named}
 
 pub quiet_outside : (l : Bool) (s : Scoped) → IsQuietOutside l (sought l s) None

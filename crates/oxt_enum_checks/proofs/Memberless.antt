@@ -8,9 +8,9 @@ use Rattle.oxt_declares.specs.Declares.{each_found}
 use Rattle.oxt_declares.specs.RoleOf.{role_of}
 use Rattle.oxt_declares.specs.declared.collect.Mode.{Mode}
 use Rattle.oxt_enum_checks.specs.Around.{Enum, enum_in, within}
-use Rattle.oxt_enum_checks.specs.Members.{Member, member_in, member_of, member_views, members_of, name_at, name_in, name_of, named_member}
+use Rattle.oxt_enum_checks.specs.Members.{Member, member_in, member_of, member_views, members_of, name_in, name_of, named_member}
 use Rattle.oxt_enum_checks.specs.Members as members
-use Rattle.oxt_enum_checks.specs.Misused.{HasNoMember, is_member, is_member_symbol, is_misused, is_misused_as, is_misused_use, misused, misused_at, symbol_in, value_use}
+use Rattle.oxt_enum_checks.specs.Misused.{HasNoMember, is_member, is_member_symbol, is_misused_use, misused, misused_at}
 use Rattle.oxt_enum_checks.specs.Misused as misuse
 use Rattle.oxt_enum_checks.specs.Shadows.{Fields, Shadow, all_among, all_at, all_shadows, declares_name, each_shadows, field_shadows, initializer_shadows, left_shadows, member_shadows, own_shadow, read_shadows, shadowed, shadows, step_shadows, least}
 use Rattle.oxt_enum_checks.specs.Uses.{is_member_of, is_own_symbol, is_scope, means_member, scope_around}
@@ -28,6 +28,7 @@ use Rattle.oxt_scopes.specs.declared.way.Step.TheVariants as step
 use Rattle.oxt_scopes.specs.declared.way.Way.{Way}
 use Rattle.oxt_scopes.specs.declared.way.Way.TheVariants as way
 use Rattle.oxt_scoping.specs.Entries.{SymbolData}
+use Rattle.oxt_scoping.specs.Meant.{symbol_in, value_use}
 use Rattle.oxt_scoping.specs.Scoped.{Scoped, at_node}
 use Rattle.oxt_scoping.specs.declared.entry.Reference.{Reference}
 use Rattle.oxt_search.specs.All.{all_in, given, given_inside}

@@ -1,8 +1,7 @@
 -- Shadowed names stand in the outermost enums, one after another.
 use denote.Ref.{Bor}
-use Rattle.std.proofs.Common.{◌≡◌, ◌∙◌, refl, sym, ap, ℕ, ◌+◌, ◌<◌, ◌≤◌, List, [], ◌∷◌, ◌++◌, map, length, drop, get_or, append_assoc, append-nil, Bool, false, ◌&&◌, Option, None, cond}
+use Rattle.std.proofs.Common.{◌≡◌, ◌∙◌, refl, sym, ap, ℕ, ◌+◌, ◌<◌, ◌≤◌, List, [], ◌∷◌, ◌++◌, map, length, drop, get_or, append_assoc, append-nil, Bool, false, ◌&&◌, None, cond}
 use Rattle.std.specs.Prelude.{codes}
-use Rattle.oxt_declares.specs.Dropped.{is_dropped_by}
 use Rattle.oxt_enum_checks.specs.Around.{enum_in, symbol_of_name, within}
 use Rattle.oxt_enum_checks.specs.Shadows.{Shadow, all_among, all_at, all_shadows, initializer_shadows, left_all, member_shadows}
 use Rattle.oxt_grammar.specs.Rows.{row_of}

@@ -3,7 +3,7 @@ use Rattle.std.specs.Prelude.{ℕ, List, [], ◌∷◌, ◌++◌, find, fold, mi
 use Rattle.std.specs.Bool.{beq}
 use Rattle.std.specs.Option.{option_or}
 use Rattle.oxt_enum_checks.specs.Blocks.{blocks_of}
-use Rattle.oxt_enum_checks.specs.Sought.{declarations_of, declared_symbol, sought_blocks}
+use Rattle.oxt_enum_checks.specs.Sought.{declarations_of, sought_blocks}
 use Rattle.oxt_enum_checks.specs.Places.{Placed, places_of}
 use Rattle.oxt_enum_checks.specs.Sort.{is_base, is_block, is_namespace, sort_of}
 use Rattle.oxt_enum_checks.specs.declared.clash.Emitted.{Emitted}
@@ -11,6 +11,7 @@ use Rattle.oxt_enum_checks.specs.declared.blocks.Block.{Block}
 use Rattle.oxt_enum_checks.specs.declared.sought.Sought.TheVariants as sought
 use Rattle.oxt_enum_checks.specs.declared.places.Place.{Place}
 use Rattle.oxt_enum_checks.specs.declared.sort.Sort.{Sort}
+use Rattle.oxt_scoping.specs.Meant.{declared_symbol}
 use Rattle.oxt_scoping.specs.Scoped.{Scoped}
 use Rattle.oxt_scoping.specs.declared.entry.Redeclaration.{Redeclaration}
 use Rattle.oxt_tree.specs.Doc.{Doc}

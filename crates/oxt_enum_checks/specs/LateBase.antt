@@ -4,10 +4,11 @@ use Rattle.oxt_enum_checks.specs.Blocks.{blocks_of}
 use Rattle.oxt_enum_checks.specs.Clash.{emitted, lesser}
 use Rattle.oxt_enum_checks.specs.Places.{Placed, places_of}
 use Rattle.oxt_enum_checks.specs.Sort.{is_base, is_namespace}
-use Rattle.oxt_enum_checks.specs.Sought.{declarations_of, declared_symbol, sought_blocks}
+use Rattle.oxt_enum_checks.specs.Sought.{declarations_of, sought_blocks}
 use Rattle.oxt_enum_checks.specs.declared.clash.Emitted.{Emitted}
 use Rattle.oxt_enum_checks.specs.declared.blocks.Block.{Block}
 use Rattle.oxt_enum_checks.specs.declared.sought.Sought.TheVariants as sought
+use Rattle.oxt_scoping.specs.Meant.{declared_symbol}
 use Rattle.oxt_scoping.specs.Scoped.{Scoped}
 use Rattle.oxt_scoping.specs.declared.entry.Redeclaration.{Redeclaration}
 use Rattle.oxt_tree.specs.Doc.{Doc}

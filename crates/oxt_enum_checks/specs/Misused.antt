@@ -1,13 +1,13 @@
 -- Bare names of members of enums, where the value of a member cannot stand.
-use Rattle.std.specs.Prelude.{◌≡◌, ℕ, List, Bool, false, ◌&&◌, ◌||◌, ◌==◌, if◌then◌else◌, Option, None, Some, slice_get}
+use Rattle.std.specs.Prelude.{◌≡◌, ℕ, Bool, false, ◌&&◌, ◌||◌, ◌==◌, if◌then◌else◌, Option, None, Some, slice_get}
 use Rattle.std.specs.Int.RustNames.{bit_and}
 use Rattle.oxt_scoping.specs.Entries.{SymbolData}
-use Rattle.oxt_scoping.specs.Scoped.{Scoped, at_node, live_at, still}
+use Rattle.oxt_scoping.specs.Meant.{symbol_in, value_use}
+use Rattle.oxt_scoping.specs.Scoped.{Scoped, live_at}
 use Rattle.oxt_scoping.specs.declared.entry.Reference.{Reference}
 use Rattle.oxt_search.specs.First.{first_in}
 use Rattle.oxt_search.specs.Sought.{Sought}
 use Rattle.oxt_tree.specs.declared.inside.Inside.TheVariants as inside
-use Rattle.oxt_names.specs.declared.ids.ReferenceId.{ReferenceId}
 use Rattle.oxt_names.specs.declared.ids.SymbolId.{SymbolId}
 use Rattle.oxt_grammar.specs.Places.{same_kind}
 use Rattle.oxt_grammar.specs.declared.kind.Kind.{Kind}
@@ -17,11 +17,6 @@ use Rattle.oxt_names.specs.declared.ids.NodeId.{NodeId}
 use Rattle.oxt_declares.specs.Dropped.{inside_dropped_by, is_dropped_by}
 
 -- ---- symbols
-
--- a symbol by its number, if there is one
-abbrev pub symbol_in : List SymbolData → Option SymbolId → Option SymbolData
-symbol_in ys None = None
-symbol_in ys (Some i) = slice_get ys i.0
 
 -- the symbol of a member of an enum
 abbrev pub is_member_symbol : Option SymbolData → Bool
@@ -37,20 +32,6 @@ abbrev pub HasNoMember : Scoped → Type 0
 HasNoMember s = (n : ℕ) → is_member_symbol (slice_get s.symbols n) ≡ false
 
 -- ---- references
-
--- a use as a value, and not in a type
-abbrev pub by_value : Option Reference → Option Reference
-by_value None = None
-by_value (Some r) = if bit_and r.flags.0 4 == 4 then None else Some r
-
--- the same of a reference by its number
-abbrev pub by_number : Scoped → Option ReferenceId → Option Reference
-by_number s None = None
-by_number s (Some r) = by_value (live_at s.references r.0)
-
--- how the node of that number is used, if it is a name that is used as a value
-abbrev pub value_use : Scoped → ℕ → Option Reference
-value_use s n = by_number s (still s.references (at_node (record { 0 = n }) s.named))
 
 -- the name means a member of an enum, and it is written or names an element of JSX
 abbrev pub is_misused_as : Scoped → Bool → Reference → Bool

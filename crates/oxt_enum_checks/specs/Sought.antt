@@ -66,15 +66,6 @@ has_block (Some y) = list_any is_emitting_block y.declarations
 abbrev pub HasNoBlock : Scoped → Type 0
 HasNoBlock s = (n : ℕ) → has_block (slice_get s.symbols n) ≡ false
 
--- a symbol by its number, if there is one
-abbrev pub symbol_in : List SymbolData → Option SymbolId → Option SymbolData
-symbol_in ys None = None
-symbol_in ys (Some i) = slice_get ys i.0
-
--- the symbol that the node of that number declares
-abbrev pub declared_symbol : Scoped → ℕ → Option SymbolData
-declared_symbol s n = symbol_in s.symbols (lookup (nat_eq n) s.declared)
-
 -- the declarations of a symbol
 abbrev pub declarations_of : Option SymbolData → List Redeclaration
 declarations_of None = []

@@ -2,8 +2,8 @@
 use Rattle.std.specs.Prelude.{ℕ, Bool, false, ◌&&◌, ◌==◌, Option, None, Some, slice_get}
 use Rattle.std.specs.Int.RustNames.{bit_and}
 use Rattle.oxt_enum_checks.specs.Around.{Enum}
-use Rattle.oxt_enum_checks.specs.Misused.{symbol_in, value_use}
 use Rattle.oxt_scoping.specs.Entries.{ScopeData, SymbolData}
+use Rattle.oxt_scoping.specs.Meant.{symbol_in, value_use}
 use Rattle.oxt_scoping.specs.Scoped.{Scoped}
 use Rattle.oxt_scoping.specs.declared.entry.Reference.{Reference}
 use Rattle.oxt_names.specs.declared.ids.ScopeId.{ScopeId}

@@ -1,8 +1,9 @@
 -- The first member of an enum whose constant would be larger than the largest.
 use Rattle.std.specs.Prelude.{◌≡◌, ℕ, Bool, false, ◌&&◌, ◌==◌, if◌then◌else◌, Option, None, Some, ℤ, pos, negsuc, codes, slice_get}
-use Rattle.oxt_enum_checks.specs.Misused.{is_member_symbol, symbol_in}
+use Rattle.oxt_enum_checks.specs.Misused.{is_member_symbol}
 use Rattle.oxt_enum_checks.specs.declared.wide.WideMember.{WideMember}
 use Rattle.oxt_scoping.specs.Entries.{SymbolData}
+use Rattle.oxt_scoping.specs.Meant.{symbol_in}
 use Rattle.oxt_scoping.specs.Scoped.{Scoped, at_node}
 use Rattle.oxt_search.specs.First.{first_in}
 use Rattle.oxt_search.specs.Sought.{Sought}

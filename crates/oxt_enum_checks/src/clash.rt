@@ -3,9 +3,10 @@
 //! the other.
 ghost use Rattle.std.specs.Prelude.{◌≡◌, ◌++◌, ◌||◌, IfOk, OnOk, false, is_some, option_map};
 ghost use Rattle.oxt_enum_checks.specs.Clash.{clash_among, clash_from, clash_with, clashes, emitted, emitted_as, least_clash, lesser, merges};
-ghost use Rattle.oxt_enum_checks.specs.Sought.{declarations_of, declared_symbol};
+ghost use Rattle.oxt_enum_checks.specs.Sought.{declarations_of};
 ghost use Rattle.oxt_enum_checks.specs.Places.{places_in};
 ghost use Rattle.oxt_enum_checks.specs.Sort.{is_block};
+ghost use Rattle.oxt_scoping.specs.Meant.{declared_symbol};
 
 use crate::blocks::Block;
 use crate::places::{Place, Places};

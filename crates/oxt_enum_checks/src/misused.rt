@@ -1,6 +1,6 @@
 //! The first bare name of a member that stands where its value cannot.
 ghost use Rattle.std.specs.Prelude.{◌≡◌, ℕ, false, option_map};
-ghost use Rattle.oxt_enum_checks.specs.Misused.{HasNoMember, HasNoWrittenMember, is_member, is_misused, is_misused_as, is_misused_use, misused, misused_at, names_element, number_of, sought, value_use};
+ghost use Rattle.oxt_enum_checks.specs.Misused.{HasNoMember, HasNoWrittenMember, is_member, is_misused, is_misused_as, is_misused_use, misused, misused_at, names_element, number_of, sought};
 ghost use Rattle.oxt_scopes.specs.Stack.{number_at};
 ghost use Rattle.oxt_scoping.specs.Scoped.{live_at};
 ghost use Rattle.oxt_tree.specs.View.{node_doc};
@@ -92,7 +92,7 @@ fn names_element(kind: Kind) -> bool
 fn is_misused(node: NodeId, scoping: &Scoping, is_element: bool) -> bool
     ensures { result ≡ is_misused scoping.now node.0 is_element }
 {
-    match value_use(node, scoping) {
+    match scoping.value_use_of(node) {
         Some(reference) => is_misused_as(scoping, reference, is_element),
         None => false,
     }
@@ -127,18 +127,6 @@ fn is_written_member(scoping: &Scoping, reference: ReferenceId) -> bool
         is_misused_as(scoping, *scoping.get_reference(reference), false)
     } else {
         false
-    }
-}
-
-/// How the node of that number is used, if it is a name that is used as a value.
-pub fn value_use(node: NodeId, scoping: &Scoping) -> Option<Reference>
-    ensures { result ≡ value_use scoping.now node.0 }
-{
-    let reference = scoping.get_reference(scoping.reference_of(node)?);
-    if reference.flags.contains(ReferenceFlags::TypeUse) {
-        None
-    } else {
-        Some(*reference)
     }
 }
 

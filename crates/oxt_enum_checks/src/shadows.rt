@@ -1,7 +1,6 @@
 //! Bare names of members in an initializer, where the name of the enum means something that it declares.
 ghost use Rattle.std.specs.Prelude.{◌≡◌, ◌++◌, ◌&&◌, [], OnOk, map};
 ghost use Rattle.oxt_declares.specs.Declares.{each_found};
-ghost use Rattle.oxt_declares.specs.RoleOf.{role_of};
 ghost use Rattle.oxt_enum_checks.specs.Around.{around_view};
 ghost use Rattle.oxt_enum_checks.specs.Shadows.{declares_name, each_shadows, field_shadows, is_shadowed, left_shadows, own_shadow, read_shadows, shadow_views, shadows, step_shadows};
 ghost use Rattle.oxt_scopes.specs.Stack.{levels};

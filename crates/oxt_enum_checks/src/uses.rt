@@ -4,7 +4,6 @@ ghost use Rattle.oxt_enum_checks.specs.Around.{around_view};
 ghost use Rattle.oxt_enum_checks.specs.Uses.{is_member_of, is_member_use, is_own_member, is_scope};
 
 use crate::around::EnumAround;
-use crate::misused::value_use;
 use bitflags::Flags;
 use oxt_names::flags::SymbolFlags;
 use oxt_names::ids::{NodeId, ScopeId, SymbolId};
@@ -14,7 +13,7 @@ use oxt_scoping::scoping::Scoping;
 pub fn is_member_use(scoping: &Scoping, around: EnumAround, node: NodeId) -> bool
     ensures { result ≡ is_member_use scoping.now (around_view around.entry) node.0 }
 {
-    match value_use(node, scoping) {
+    match scoping.value_use_of(node) {
         Some(reference) => is_member_of(scoping, around, reference.symbol),
         None => false,
     }

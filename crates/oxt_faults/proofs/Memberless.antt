@@ -1,13 +1,11 @@
 -- Words of initializers stand at members of enums alone.
-use Rattle.std.proofs.Common.{refl, ap, ℕ, Bool, ◌&&◌, not, cond, None}
+use Rattle.std.proofs.Common.{refl, ap, Bool, ◌&&◌, not, cond, None}
 use Rattle.std.specs.Prelude.{codes}
 use Rattle.oxt_faults.specs.Initializers.{is_constant, own_word, sought}
 use Rattle.oxt_faults.specs.Level.{level_word}
-use Rattle.oxt_grammar.specs.declared.kind.Kind.{Kind}
 use Rattle.oxt_scoping.specs.Scoped.{Scoped}
 use Rattle.oxt_declares.proofs.Outside.{no_member, passing_over}
 use Rattle.oxt_declares.specs.Quiet.{IsQuietOutside}
-use Rattle.oxt_tree.specs.Doc.{Docs}
 use Rattle.oxt_tree.specs.Fields.{named}
 
 -- the search for them gives nothing elsewhere

@@ -6,11 +6,11 @@ use Rattle.oxt_faults.specs.AllCaptured.{all_captured, all_marked}
 use Rattle.oxt_faults.specs.Earliest.{earlier}
 use Rattle.oxt_faults.specs.WrittenNames.{is_written, marked_sought, written_captured, written_marked, written_sought}
 use Rattle.oxt_fields.specs.Rules.{Rules}
-use Rattle.oxt_metadata.specs.Meant.{meant}
-use Rattle.oxt_faults.specs.Captured.{Capture, captured, captured_as, captured_at, emits, is_captured, is_emitted, symbol_at, value_meant}
+use Rattle.oxt_faults.specs.Captured.{Capture, captured, captured_as, emits, is_captured, is_emitted}
 use Rattle.oxt_faults.specs.Captured as spec
 use Rattle.oxt_faults.specs.Marks.{captured_symbols, emitting_symbols, mark_at, marked, marked_as, use_of}
 use Rattle.oxt_scoping.specs.Entries.{SymbolData}
+use Rattle.oxt_scoping.specs.Meant.{meant, symbol_in, value_meant}
 use Rattle.oxt_scoping.specs.Scoped.{Scoped}
 use Rattle.oxt_scoping.specs.declared.entry.Redeclaration.{Redeclaration}
 use Rattle.oxt_search.specs.First.{first_in}
@@ -71,8 +71,8 @@ emitting_at [] i = refl
 emitting_at (y ∷ ys) zero = refl
 emitting_at (y ∷ ys) (suc i) = emitting_at ys i
 
-pub emitting_mark : (s : Scoped) (bs : List Bool) (b : Bool) (i : SymbolId) (o : Option SymbolId) → bs ≡ emitting_symbols s → Some i ≡ o → b ≡ mark_at bs i → b ≡ is_emitted (symbol_at s.symbols o)
-emitting_mark s bs b i o are found is = is ∙ ap (λ cs. mark_at cs i) are ∙ emitting_at s.symbols i.0 ∙ ap (λ p. is_emitted (symbol_at s.symbols p)) found
+pub emitting_mark : (s : Scoped) (bs : List Bool) (b : Bool) (i : SymbolId) (o : Option SymbolId) → bs ≡ emitting_symbols s → Some i ≡ o → b ≡ mark_at bs i → b ≡ is_emitted (symbol_in s.symbols o)
+emitting_mark s bs b i o are found is = is ∙ ap (λ cs. mark_at cs i) are ∙ emitting_at s.symbols i.0 ∙ ap (λ p. is_emitted (symbol_in s.symbols p)) found
 
 -- that it is captured
 captured_mark : (s : Scoped) (ls : ℕ → Bool) (n : ℕ) (ys : List SymbolData) (i : ℕ)
@@ -81,7 +81,7 @@ captured_mark s ls n [] i = refl
 captured_mark s ls n (y ∷ ys) zero = refl
 captured_mark s ls n (y ∷ ys) (suc i) = captured_mark s ls n ys i
 
-captured_so : (s : Scoped) (ls : ℕ → Bool) (n : ℕ) (o : Option SymbolId) → marked_as s (captured_symbols s ls) n o ≡ captured_as s ls n (symbol_at s.symbols o)
+captured_so : (s : Scoped) (ls : ℕ → Bool) (n : ℕ) (o : Option SymbolId) → marked_as s (captured_symbols s ls) n o ≡ captured_as s ls n (symbol_in s.symbols o)
 captured_so s ls n None = refl
 captured_so s ls n (Some i) = captured_mark s ls n s.symbols i.0
 
@@ -120,7 +120,7 @@ emitted_is None ds h = absurd (cc)
 emitted_is (Some y) ds h = let same : y.declarations ≡ ds = cc in ap emits (sym same)
 
 -- a declaration of the symbol that a scope binds the name to emits code
-pub taken_so : (s : Scoped) (i : SymbolId) (o : Option SymbolId) (ds : List Redeclaration) (b : Bool) → Some i ≡ o → option_map (λ (z : SymbolData). z.declarations) (slice_get s.symbols i.0) ≡ Some ds → b ≡ emits ds → b ≡ is_emitted (symbol_at s.symbols o)
-taken_so s i o ds b found are is = is ∙ emitted_is (slice_get s.symbols i.0) ds are ∙ ap (λ p. is_emitted (symbol_at s.symbols p)) found
+pub taken_so : (s : Scoped) (i : SymbolId) (o : Option SymbolId) (ds : List Redeclaration) (b : Bool) → Some i ≡ o → option_map (λ (z : SymbolData). z.declarations) (slice_get s.symbols i.0) ≡ Some ds → b ≡ emits ds → b ≡ is_emitted (symbol_in s.symbols o)
+taken_so s i o ds b found are is = is ∙ emitted_is (slice_get s.symbols i.0) ds are ∙ ap (λ p. is_emitted (symbol_in s.symbols p)) found
 
 pub ruleset taken_steps = (taken_so)

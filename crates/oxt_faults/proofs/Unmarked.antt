@@ -2,13 +2,13 @@
 use Rattle.std.proofs.Common.{◌≡◌, ◌∙◌, refl, sym, ap, ℕ, zero, suc, List, [], ◌∷◌, Bool, true, false, Option, None, Some, cond, option_map, slice_get, true≢false}
 use Rattle.std.specs.Prelude.{slice_index_or}
 use Rattle.oxt_faults.specs.AllCaptured.{all_marked}
-use Rattle.oxt_faults.specs.Captured.{Capture, value_meant}
+use Rattle.oxt_faults.specs.Captured.{Capture}
 use Rattle.oxt_faults.specs.Earliest.{earlier}
 use Rattle.oxt_faults.specs.Marks.{has_mark, marked, marked_as, marked_at, use_of}
 use Rattle.oxt_faults.specs.WrittenNames.{is_written, marked_sought, written_marked}
 use Rattle.oxt_fields.specs.Rules.{Rules}
-use Rattle.oxt_metadata.specs.Meant.{meant}
 use Rattle.oxt_names.specs.declared.ids.SymbolId.{SymbolId}
+use Rattle.oxt_scoping.specs.Meant.{meant, value_meant}
 use Rattle.oxt_scoping.specs.Scoped.{Scoped}
 use Rattle.oxt_search.proofs.Nothing.{either_none, none_in}
 use Rattle.oxt_search.specs.First.{first, first_in}

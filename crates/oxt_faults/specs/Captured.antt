@@ -1,19 +1,15 @@
 -- Names that would change their owner once erased declarations are gone.
 use Rattle.std.specs.Prelude.{ℕ, zero, suc, List, Bool, false, not, ◌&&◌, ◌||◌, ◌==◌, if◌then◌else◌, Option, None, Some, slice_get}
-use Rattle.std.specs.Int.RustNames.{bit_and}
 use Rattle.std.specs.List.{list_any}
 use Rattle.oxt_faults.specs.declared.captured.CapturedName.{CapturedName}
 use Rattle.oxt_scoping.specs.Entries.{ScopeData, SymbolData}
-use Rattle.oxt_scoping.specs.Scoped.{Scoped, at_node, binding_at, live_at, still}
+use Rattle.oxt_scoping.specs.Meant.{symbol_in, value_meant}
+use Rattle.oxt_scoping.specs.Scoped.{Scoped, binding_at}
 use Rattle.oxt_scoping.specs.declared.entry.Redeclaration.{Redeclaration}
-use Rattle.oxt_scoping.specs.declared.entry.Reference.{Reference}
 use Rattle.oxt_search.specs.First.{first_in}
 use Rattle.oxt_search.specs.Sought.{Sought}
 use Rattle.oxt_tree.specs.declared.inside.Inside.TheVariants as inside
-use Rattle.oxt_names.specs.declared.flags.ReferenceFlags.{ReferenceFlags}
-use Rattle.oxt_names.specs.declared.ids.ReferenceId.{ReferenceId}
 use Rattle.oxt_names.specs.declared.ids.ScopeId.{ScopeId}
-use Rattle.oxt_names.specs.declared.ids.SymbolId.{SymbolId}
 use Rattle.oxt_tree.specs.Doc.{Doc}
 use Rattle.oxt_names.specs.Names.{name_bytes}
 use Rattle.oxt_declares.specs.Dropped.{inside_dropped_by, is_dropped_by}
@@ -37,14 +33,9 @@ abbrev pub is_emitted : Option SymbolData → Bool
 is_emitted None = false
 is_emitted (Some y) = emits y.declarations
 
--- the symbol, if there is one with that number
-abbrev pub symbol_at : List SymbolData → Option SymbolId → Option SymbolData
-symbol_at ys None = None
-symbol_at ys (Some i) = slice_get ys i.0
-
 -- the scope binds the spelling to a symbol of which a declaration emits code
 abbrev pub emits_at : Scoped → List ℕ → ScopeId → Bool
-emits_at s t i = is_emitted (symbol_at s.symbols (binding_at s.scopes i.0 t))
+emits_at s t i = is_emitted (symbol_in s.symbols (binding_at s.scopes i.0 t))
 
 -- the scope around the scope
 abbrev pub around : Option ScopeData → Option ScopeId
@@ -73,24 +64,6 @@ is_captured s ls y = not (emits_beside ls y.declarations) && emits_outside s y.n
 
 -- ---- references
 
--- a use as a value, and not in a type
-abbrev pub is_value_use : ReferenceFlags → Bool
-is_value_use f = not (bit_and f.0 4 == 4)
-
--- the symbol that a use as a value means
-abbrev pub meant_by_value : Option Reference → Option SymbolId
-meant_by_value None = None
-meant_by_value (Some r) = if is_value_use r.flags then r.symbol else None
-
--- the same of the reference with that number
-abbrev pub meant_by_number : Scoped → Option ReferenceId → Option SymbolId
-meant_by_number s None = None
-meant_by_number s (Some r) = meant_by_value (live_at s.references r.0)
-
--- the symbol that the node with that number means, if it is used as a value
-abbrev pub value_meant : Scoped → ℕ → Option SymbolId
-value_meant s n = meant_by_number s (still s.references (at_node (record { 0 = n }) s.named))
-
 -- the node, where the symbol that it means is captured
 abbrev pub captured_as : Scoped → (ℕ → Bool) → ℕ → Option SymbolData → Option Capture
 captured_as s ls n None = None
@@ -98,7 +71,7 @@ captured_as s ls n (Some y) = if is_captured s ls y then Some (record { node = n
 
 -- the node with that number, if it is a captured name
 abbrev pub captured_at : Scoped → (ℕ → Bool) → ℕ → Option Capture
-captured_at s ls n = captured_as s ls n (symbol_at s.symbols (value_meant s n))
+captured_at s ls n = captured_as s ls n (symbol_in s.symbols (value_meant s n))
 
 -- ---- trees
 

@@ -1,18 +1,18 @@
 -- Names in the fields of a class that its constructor declares: there they would mean what that declares.
 use Rattle.std.specs.Prelude.{ℕ, List, Bool, false, not, ◌&&◌, ◌==◌, nat_lt, if◌then◌else◌, Option, None, Some, option_map, codes}
 use Rattle.std.specs.Int.RustNames.{bit_and}
-use Rattle.oxt_faults.specs.Captured.{Capture, is_value_use, symbol_at}
+use Rattle.oxt_faults.specs.Captured.{Capture}
 use Rattle.oxt_faults.specs.Marks.{use_of}
 use Rattle.oxt_faults.specs.Silent.{is_silent, silent_inside}
 use Rattle.oxt_faults.specs.declared.around.ClassScopes.{ClassScopes}
 use Rattle.oxt_faults.specs.declared.reach.Reach.TheVariants as reach
 use Rattle.oxt_grammar.specs.declared.kind.Kind.{Kind}
 use Rattle.oxt_names.specs.declared.flags.SymbolFlags.{SymbolFlags}
-use Rattle.oxt_names.specs.declared.ids.ReferenceId.{ReferenceId}
 use Rattle.oxt_names.specs.declared.ids.ScopeId.{ScopeId}
 use Rattle.oxt_names.specs.declared.ids.SymbolId.{SymbolId}
 use Rattle.oxt_scoping.specs.Entries.{SymbolData, value_bits}
-use Rattle.oxt_scoping.specs.Scoped.{Scoped, at_node, binding_at, live_at, still}
+use Rattle.oxt_scoping.specs.Meant.{symbol_in, value_use}
+use Rattle.oxt_scoping.specs.Scoped.{Scoped, binding_at}
 use Rattle.oxt_scoping.specs.declared.entry.Reference.{Reference}
 use Rattle.oxt_search.specs.First.{first_in}
 use Rattle.oxt_search.specs.Sought.{Sought}
@@ -46,24 +46,16 @@ abbrev pub lies_within : ScopeId → Option SymbolData → Bool
 lies_within x None = false
 lies_within x (Some y) = nat_lt x.0 y.scope.0
 
--- a use as a value of what is declared outside the class with that scope, or nowhere
+-- a use of what is declared outside the class with that scope, or nowhere
 abbrev pub comes_from_outside : Scoped → ScopeId → Option Reference → Bool
 comes_from_outside s x None = false
-comes_from_outside s x (Some r) = is_value_use r.flags && not (lies_within x (symbol_at s.symbols r.symbol))
-
--- the reference of a node, if it has one still
-abbrev pub reference_in : Scoped → Option ReferenceId → Option Reference
-reference_in s None = None
-reference_in s (Some r) = live_at s.references r.0
-
-abbrev pub reference_at : Scoped → ℕ → Option Reference
-reference_at s i = reference_in s (still s.references (at_node (record { 0 = i }) s.named))
+comes_from_outside s x (Some r) = not (lies_within x (symbol_in s.symbols r.symbol))
 
 -- the name that a node is, if it comes from outside the class while the constructor declares it as more than a type
 abbrev pub hidden_at : Scoped → ClassScopes → Kind → ℕ → Docs → Option Capture
 hidden_at s x k i ds =
-    if comes_from_outside s x.own (reference_at s i)
-    then value_as i (symbol_at s.symbols (bound_by s x.constructor (text_in (named (codes "name") k ds))))
+    if comes_from_outside s x.own (value_use s i)
+    then value_as i (symbol_in s.symbols (bound_by s x.constructor (text_in (named (codes "name") k ds))))
     else None
 
 -- ---- trees

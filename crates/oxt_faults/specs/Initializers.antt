@@ -1,8 +1,8 @@
 -- Words in initializers of members of enums, which go into a function where they stay as written.
 use Rattle.std.specs.Prelude.{ℕ, List, fold, Bool, false, not, ◌&&◌, nat_lt, if◌then◌else◌, Option, None, Some, is_some, codes}
-use Rattle.oxt_faults.specs.Captured.{symbol_at}
 use Rattle.oxt_faults.specs.Level.{LevelWordAt, level_word}
 use Rattle.oxt_scoping.specs.Entries.{SymbolData}
+use Rattle.oxt_scoping.specs.Meant.{symbol_in}
 use Rattle.oxt_scoping.specs.Scoped.{Scoped, at_node}
 use Rattle.oxt_search.specs.All.{all_in}
 use Rattle.oxt_search.specs.Sought.{Sought}
@@ -23,7 +23,7 @@ has_value (Some y) = is_some y.value
 
 -- the member of that number has a constant
 abbrev pub is_constant : Scoped → ℕ → Bool
-is_constant s n = has_value (symbol_at s.symbols (at_node (record { 0 = n }) s.declared))
+is_constant s n = has_value (symbol_in s.symbols (at_node (record { 0 = n }) s.declared))
 
 -- a member whose initializer, if it has one, stays as written
 abbrev pub is_written : Scoped → Kind → ℕ → Bool

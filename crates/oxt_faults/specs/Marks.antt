@@ -1,8 +1,9 @@
 -- What the program notes of each symbol, by their numbers, before it looks at the names.
 use Rattle.std.specs.Prelude.{ℕ, List, map, Bool, false, if◌then◌else◌, Option, None, Some, option_map, slice_get, slice_index_or}
 use Rattle.std.specs.List.{list_any}
-use Rattle.oxt_faults.specs.Captured.{Capture, emits, is_captured, value_meant}
+use Rattle.oxt_faults.specs.Captured.{Capture, emits, is_captured}
 use Rattle.oxt_scoping.specs.Entries.{SymbolData}
+use Rattle.oxt_scoping.specs.Meant.{value_meant}
 use Rattle.oxt_scoping.specs.Scoped.{Scoped}
 use Rattle.oxt_search.specs.Sought.{Sought}
 use Rattle.oxt_tree.specs.declared.inside.Inside.TheVariants as inside

@@ -3,7 +3,7 @@ use Rattle.std.specs.Prelude.{ℕ, List, map, Bool, false, not, ◌&&◌, ◌==�
 use Rattle.std.specs.Int.RustNames.{bit_and}
 use Rattle.std.specs.List.{list_any}
 use Rattle.oxt_faults.specs.Around.{scope_opened}
-use Rattle.oxt_faults.specs.Captured.{Capture, symbol_at}
+use Rattle.oxt_faults.specs.Captured.{Capture}
 use Rattle.oxt_faults.specs.Earliest.{earlier}
 use Rattle.oxt_faults.specs.Hidden.{bound_by}
 use Rattle.oxt_faults.specs.Marks.{mark_at, use_of}
@@ -15,6 +15,7 @@ use Rattle.oxt_names.specs.declared.flags.SymbolFlags.{SymbolFlags}
 use Rattle.oxt_names.specs.declared.ids.ScopeId.{ScopeId}
 use Rattle.oxt_names.specs.declared.ids.SymbolId.{SymbolId}
 use Rattle.oxt_scoping.specs.Entries.{SymbolData}
+use Rattle.oxt_scoping.specs.Meant.{symbol_in}
 use Rattle.oxt_scoping.specs.Scoped.{Scoped}
 use Rattle.oxt_scoping.specs.declared.entry.Redeclaration.{Redeclaration}
 use Rattle.oxt_search.specs.All.{all_in}
@@ -70,7 +71,7 @@ again_at ns (Some y) = has_other ns y
 
 -- the symbol of that number has one
 abbrev pub is_again : Scoped → (ℕ → Bool) → Option SymbolId → Bool
-is_again s ns i = again_at ns (symbol_at s.symbols i)
+is_again s ns i = again_at ns (symbol_in s.symbols i)
 
 -- what the program notes of each symbol, by their numbers: whether it has one
 abbrev pub redeclared_symbols : Scoped → (ℕ → Bool) → List Bool
@@ -84,7 +85,7 @@ mark_by bs (Some i) = mark_at bs i
 
 -- the name of the symbol at that node, if it is
 abbrev pub again_as : Scoped → (Option SymbolId → Bool) → ℕ → Option SymbolId → Option Capture
-again_as s g n i = if g i then option_map (use_of n) (symbol_at s.symbols i) else None
+again_as s g n i = if g i then option_map (use_of n) (symbol_in s.symbols i) else None
 
 -- the name of a parameter that is a property, if the scope binds it to such a symbol
 abbrev pub property_by : Scoped → (Option SymbolId → Bool) → ScopeId → Kind → ℕ → Docs → Option Capture

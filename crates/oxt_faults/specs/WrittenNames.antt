@@ -1,12 +1,12 @@
 -- Names that metadata writes as values, where they would mean something else.
 use Rattle.std.specs.Prelude.{ℕ, List, Bool, not, ◌&&◌, if◌then◌else◌, Option, None, Some, is_some, codes}
-use Rattle.oxt_faults.specs.Captured.{Capture, captured_as, symbol_at}
+use Rattle.oxt_faults.specs.Captured.{Capture, captured_as}
 use Rattle.oxt_faults.specs.Hidden.{bound_by, lies_within, value_as}
 use Rattle.oxt_faults.specs.Marks.{marked_as}
 use Rattle.oxt_faults.specs.declared.around.ClassScopes.{ClassScopes}
 use Rattle.oxt_fields.specs.Rules.{Rules}
 use Rattle.oxt_grammar.specs.declared.kind.Kind.{Kind}
-use Rattle.oxt_metadata.specs.Meant.{meant}
+use Rattle.oxt_scoping.specs.Meant.{meant, symbol_in}
 use Rattle.oxt_scoping.specs.Scoped.{Scoped}
 use Rattle.oxt_search.specs.First.{first_in}
 use Rattle.oxt_search.specs.Sought.{Sought}
@@ -22,7 +22,7 @@ is_written r i = is_some (r.written i)
 
 -- the name of that number, if metadata writes it and what it means is captured
 abbrev pub written_at : Rules → Scoped → (ℕ → Bool) → ℕ → Option Capture
-written_at r s ls i = if is_written r i then captured_as s ls i (symbol_at s.symbols (meant s i)) else None
+written_at r s ls i = if is_written r i then captured_as s ls i (symbol_in s.symbols (meant s i)) else None
 
 -- each of them, also in erased code
 abbrev pub written_sought : Rules → Scoped → (ℕ → Bool) → Sought (Unit {0}) Capture
@@ -58,8 +58,8 @@ written_marked r s bs d = if r.emits then first_in (marked_sought r s bs) d tt e
 -- than a type
 abbrev pub hidden_written_at : Rules → Scoped → ClassScopes → Kind → ℕ → Docs → Option Capture
 hidden_written_at r s x k i ds =
-    if is_written r i && not (lies_within x.own (symbol_at s.symbols (meant s i)))
-    then value_as i (symbol_at s.symbols (bound_by s x.constructor (text_in (named (codes "name") k ds))))
+    if is_written r i && not (lies_within x.own (symbol_in s.symbols (meant s i)))
+    then value_as i (symbol_in s.symbols (bound_by s x.constructor (text_in (named (codes "name") k ds))))
     else None
 
 abbrev pub hidden_sought : Rules → Scoped → ClassScopes → Sought (Unit {0}) Capture

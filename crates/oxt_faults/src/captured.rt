@@ -1,7 +1,7 @@
 //! The first name that would change its owner.
 ghost use Rattle.std.specs.Prelude.{◌≡◌, IfOk, Some, option_map};
 ghost use Rattle.oxt_faults.specs.AllCaptured.{all_captured, all_marked};
-ghost use Rattle.oxt_faults.specs.Captured.{Capture, capture_view, value_meant};
+ghost use Rattle.oxt_faults.specs.Captured.{Capture, capture_view};
 ghost use Rattle.oxt_faults.specs.Earliest.{earlier};
 ghost use Rattle.oxt_faults.specs.Marks.{captured_symbols, has_mark, marked, marked_as, marked_at};
 ghost use Rattle.oxt_fields.specs.Rules.{rules_view};
@@ -11,12 +11,10 @@ ghost use Rattle.oxt_tree.specs.View.{node_doc};
 
 use crate::outside::{captured_symbols, mark_at};
 use crate::written::first_written;
-use bitflags::Flags;
 use oxt_declares::dropped::{inside_dropped, is_dropped};
 use oxt_fields::rules::FieldRules;
 use oxt_grammar::holds::Row;
 use oxt_grammar::kind::Kind;
-use oxt_names::flags::ReferenceFlags;
 use oxt_names::ids::{NodeId, OutOfMemory, SymbolId};
 use oxt_names::name::Name;
 use oxt_options::nodes::NodeList;
@@ -167,7 +165,7 @@ impl<'a, 'b> Search for Marked<'a, 'b> {
 fn marked_at<'a>(node: NodeId, scoping: &'a Scoping, marks: &[bool]) -> Option<CapturedName<'a>>
     ensures { option_map capture_view result ≡ marked_at scoping.now marks.now node.0 }
 {
-    name_of(node, value_meant(node, scoping)?, scoping, marks)
+    name_of(node, scoping.value_meaning_of(node)?, scoping, marks)
 }
 
 /// The node as a name of the symbol, if that is marked.
@@ -184,17 +182,5 @@ pub fn name_of<'a>(
         Some(CapturedName { node, name })
     } else {
         None
-    }
-}
-
-/// The symbol that the node means, if it is used as a value.
-fn value_meant(node: NodeId, scoping: &Scoping) -> Option<SymbolId>
-    ensures { result ≡ value_meant scoping.now node.0 }
-{
-    let reference = scoping.get_reference(scoping.reference_of(node)?);
-    if reference.flags.contains(ReferenceFlags::TypeUse) {
-        None
-    } else {
-        reference.symbol
     }
 }

@@ -1,6 +1,6 @@
 //! Of names that would be captured, the one at the node of the least number.
 ghost use Rattle.std.specs.Prelude.{◌≡◌, Some, map, option_map};
-ghost use Rattle.oxt_faults.specs.Earliest.{earlier, earlier_of, earliest, moved_view, of_word};
+ghost use Rattle.oxt_faults.specs.Earliest.{earlier, earliest, moved_view, of_word};
 ghost use Rattle.oxt_faults.specs.Level.{found_view};
 
 use crate::level::FoundWord;

@@ -1,8 +1,8 @@
 //! Names that lowered code has of its own: `module`, `require`, `babelHelpers` and the global names of metadata, which are free,
 //! and `value`.
-ghost use Rattle.std.specs.Prelude.{◌≡◌, ◌<◌, codes, length, option_map};
-ghost use Rattle.oxt_faults.specs.Captured.{Capture, emits_at, is_emitted, symbol_at};
-ghost use Rattle.oxt_faults.specs.Free.{call_word, free, free_around, free_at, free_in, free_inside, free_view, globals_around, has_call, in_scope, is_static_accessor, is_value_class, made_word, nothing_taken, outside_class, seen_from, sought, text_of_free, word_at, word_of_call};
+ghost use Rattle.std.specs.Prelude.{◌≡◌, ◌<◌, length, option_map};
+ghost use Rattle.oxt_faults.specs.Captured.{Capture, emits_at};
+ghost use Rattle.oxt_faults.specs.Free.{call_word, free, free_around, free_at, free_in, free_inside, free_view, globals_around, has_call, is_static_accessor, is_value_class, made_word, nothing_taken, outside_class, seen_from, sought, text_of_free, word_at, word_of_call};
 ghost use Rattle.oxt_fields.specs.Rules.{rules_view};
 ghost use Rattle.oxt_grammar.specs.Field.{row_view};
 ghost use Rattle.oxt_options.specs.Facts.{is_in};
@@ -18,7 +18,7 @@ use oxt_fields::rules::FieldRules;
 use oxt_grammar::field::Field;
 use oxt_grammar::holds::Row;
 use oxt_grammar::kind::Kind;
-use oxt_names::ids::{NodeId, ScopeId, SymbolId};
+use oxt_names::ids::{NodeId, ScopeId};
 use oxt_options::metadata::GlobalName;
 use oxt_options::nodes::NodeList;
 use oxt_scoping::scoping::Scoping;

@@ -1,9 +1,10 @@
 //! Names in the fields of a class that its constructor declares.
 ghost use Rattle.std.specs.Prelude.{◌≡◌, ◌<◌, IfSome, Some, length, option_map, slice_get};
 ghost use Rattle.oxt_faults.specs.Earliest.{moved_view};
-ghost use Rattle.oxt_faults.specs.Hidden.{bound_by, comes_from_outside, hidden_at, hidden_by, hidden_name, is_value, is_value_symbol, lies_within, reference_at, sought, value_as};
-ghost use Rattle.oxt_faults.specs.Captured.{Capture, symbol_at};
-ghost use Rattle.oxt_tree.specs.View.{doc_or_nil, docs_in, node_doc};
+ghost use Rattle.oxt_faults.specs.Hidden.{bound_by, comes_from_outside, hidden_at, hidden_by, hidden_name, is_value, is_value_symbol, lies_within, sought, value_as};
+ghost use Rattle.oxt_faults.specs.Captured.{Capture};
+ghost use Rattle.oxt_tree.specs.View.{doc_or_nil, docs_in};
+ghost use Rattle.oxt_scoping.specs.Meant.{symbol_in, value_use};
 
 use crate::around::ClassScopes;
 use crate::earliest::MovedName;
@@ -13,9 +14,9 @@ use bitflags::Flags;
 use oxt_grammar::field::Field;
 use oxt_grammar::holds::Row;
 use oxt_grammar::kind::Kind;
-use oxt_names::flags::{ReferenceFlags, SymbolFlags};
+use oxt_names::flags::SymbolFlags;
 use oxt_names::ids::{NodeId, ScopeId, SymbolId};
-use oxt_scoping::entry::{Reference, value_flags};
+use oxt_scoping::entry::value_flags;
 use oxt_scoping::scoping::Scoping;
 use oxt_search::first::{first_among, first_in};
 use oxt_search::search::{Inside, Search, Visit};
@@ -114,25 +115,17 @@ fn hidden_at<'a>(scoping: &'a Scoping, scopes: ClassScopes, node: &Node) -> Opti
 
 /// Whether the node is used as a value and means what is declared outside the class with that scope, or nowhere.
 fn comes_from_outside(scoping: &Scoping, own: ScopeId, node: NodeId) -> bool
-    ensures { result ≡ comes_from_outside scoping.now own (reference_at scoping.now node.0) }
+    ensures { result ≡ comes_from_outside scoping.now own (value_use scoping.now node.0) }
 {
-    match scoping.reference_of(node) {
-        Some(reference) => is_from_outside(scoping, own, scoping.get_reference(reference)),
+    match scoping.value_use_of(node) {
+        Some(reference) => !lies_within(scoping, own, reference.symbol),
         None => false,
     }
 }
 
-/// Whether the reference is such.
-fn is_from_outside(scoping: &Scoping, own: ScopeId, reference: &Reference) -> bool
-    ensures { result ≡ comes_from_outside scoping.now own (Some reference.now) }
-{
-    !reference.flags.contains(ReferenceFlags::TypeUse)
-        && !lies_within(scoping, own, reference.symbol)
-}
-
 /// Whether the symbol is declared inside the scope. Scopes inside have greater numbers.
 pub fn lies_within(scoping: &Scoping, own: ScopeId, symbol: Option<SymbolId>) -> bool
-    ensures { result ≡ lies_within own (symbol_at scoping.now.symbols symbol) }
+    ensures { result ≡ lies_within own (symbol_in scoping.now.symbols symbol) }
 {
     match symbol {
         Some(symbol) => scoping.has_symbol(symbol) && is_behind(scoping, own, symbol),

@@ -14,7 +14,6 @@ use oxt_fields::rules::FieldRules;
 use oxt_grammar::field::Field;
 use oxt_grammar::holds::Row;
 use oxt_grammar::kind::Kind;
-use oxt_metadata::symbols::meant;
 use oxt_names::ids::NodeId;
 use oxt_scoping::scoping::Scoping;
 use oxt_search::first::{first_among, first_in};
@@ -97,7 +96,7 @@ fn written_at<'a>(
         ≡ written_marked_at (rules_view rules.entry) scoping.now marks.now node.0 }
 {
     if is_written(rules, node) {
-        name_of(node, meant(scoping, node)?, scoping, marks)
+        name_of(node, scoping.meaning_of(node)?, scoping, marks)
     } else {
         None
     }
@@ -188,7 +187,9 @@ fn hidden_written_at<'a>(
     ensures { option_map moved_view result ≡ hidden_written_at (rules_view rules.entry) scoping.now scopes
         node.now.kind node.now.id.0 (docs_in node.now.parts.items) }
 {
-    if is_written(rules, node.id) && !lies_within(scoping, scopes.own, meant(scoping, node.id)) {
+    if is_written(rules, node.id)
+        && !lies_within(scoping, scopes.own, scoping.meaning_of(node.id))
+    {
         let symbol = bound_by(scoping, scopes.constructor, node.text(Field::Name))?;
         value_as(scoping, node.id, symbol)
     } else {

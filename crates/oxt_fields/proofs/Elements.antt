@@ -4,7 +4,7 @@ use Rattle.std.specs.List.{position_from}
 use Rattle.std.specs.Option.{option_and_then}
 use Rattle.std.specs.Prelude.{find}
 use Rattle.oxt_fields.specs.Classes.{behind, constructor_in, is_constructor, is_super_statement, super_call_position}
-use Rattle.oxt_tree.specs.Doc.{Doc, nil, flag, number, text, list, node, Docs}
+use Rattle.oxt_tree.specs.Doc.{Doc, nil, flag, number, text, list, node}
 use Rattle.oxt_tree.specs.Fields.{docs_list, node_of}
 use Rattle.oxt_tree.specs.View.{docs_in, part_doc}
 use Rattle.oxt_tree.specs.declared.tree.Part.{Part}

@@ -3,7 +3,7 @@ use Rattle.std.proofs.Common.{◌≡◌, ◌∙◌, refl, sym, ap, ℕ, zero, su
 use Rattle.std.proofs.lemmas.List.{append-nil}
 use Rattle.std.specs.Prelude.{map, nat_lt, option_map, slice_get, slice_index_or}
 use Rattle.oxt_fields.specs.Marks.{mark_at, marked, steady_symbols}
-use Rattle.oxt_fields.specs.Written.{is_steady, is_steady_by, is_steady_symbol, meant, never_written, symbol_in}
+use Rattle.oxt_fields.specs.Written.{is_steady, is_steady_by, is_steady_symbol, never_written}
 use Rattle.oxt_fields.specs.Written as spec
 use Rattle.oxt_grammar.specs.Places.{same_kind}
 use Rattle.oxt_grammar.specs.declared.kind.Kind.TheVariants as kind
@@ -11,6 +11,7 @@ use Rattle.oxt_names.specs.declared.flags.SymbolFlags.{SymbolFlags}
 use Rattle.oxt_names.specs.declared.ids.ReferenceId.{ReferenceId}
 use Rattle.oxt_names.specs.declared.ids.SymbolId.{SymbolId}
 use Rattle.oxt_scoping.specs.Entries.{SymbolData}
+use Rattle.oxt_scoping.specs.Meant.{meant, symbol_in}
 use Rattle.oxt_scoping.specs.Scoped.{Scoped}
 use Rattle.oxt_scoping.specs.declared.entry.Slot.{Slot}
 use Rattle.oxt_search.specs.All.{all_in}

@@ -9,11 +9,11 @@ use Rattle.oxt_grammar.specs.Places.{same_field}
 use Rattle.oxt_grammar.specs.declared.field.Field.{Field as FieldName}
 use Rattle.oxt_grammar.specs.declared.holds.Row.{Row}
 use Rattle.oxt_search.proofs.Alls.{among_at}
-use Rattle.oxt_search.specs.All.{all_among, all_at, all_in, given}
+use Rattle.oxt_search.specs.All.{all_among, all_at, all_in}
 use Rattle.oxt_search.specs.Sought.{Sought}
 use Rattle.oxt_names.proofs.Lists.{drop_end}
 use Rattle.oxt_tree.proofs.Places.{at_name_position, doc_at, position_from_map}
-use Rattle.oxt_tree.specs.Doc.{Doc, Docs, no_docs, doc}
+use Rattle.oxt_tree.specs.Doc.{Docs, no_docs, doc}
 use Rattle.oxt_tree.specs.Fields.{at_name}
 use Rattle.oxt_tree.specs.View.{doc_of_part, docs_in, part_doc}
 use Rattle.oxt_tree.specs.declared.tree.Part.{Part}

@@ -5,7 +5,6 @@ use Rattle.std.specs.Str.{bytes_eq}
 use Rattle.oxt_declares.specs.Calls.{elements_of, is_constructor, is_decorated}
 use Rattle.oxt_fields.specs.Fates.{fate_by}
 use Rattle.oxt_fields.specs.Rules.{Rules}
-use Rattle.oxt_fields.specs.Written.{meant}
 use Rattle.oxt_fields.specs.declared.alias.Place.{Place}
 use Rattle.oxt_fields.specs.declared.alias.Place.TheVariants as place
 use Rattle.oxt_fields.specs.declared.fate.Fate.{Fate}
@@ -16,6 +15,7 @@ use Rattle.oxt_grammar.specs.declared.category.Category.TheVariants as category
 use Rattle.oxt_grammar.specs.declared.kind.Kind.{Kind}
 use Rattle.oxt_grammar.specs.declared.kind.Kind.TheVariants as kind
 use Rattle.oxt_names.specs.declared.ids.SymbolId.{SymbolId}
+use Rattle.oxt_scoping.specs.Meant.{meant}
 use Rattle.oxt_scoping.specs.Scoped.{Scoped, at_node}
 use Rattle.oxt_search.specs.All.{all_among, all_in}
 use Rattle.oxt_search.specs.Sought.{Sought}

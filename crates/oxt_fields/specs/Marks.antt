@@ -1,10 +1,11 @@
 -- What the program notes of each symbol, by their numbers, before it looks at the names.
 use Rattle.std.specs.Prelude.{ℕ, List, map, Bool, false, ◌&&◌, if◌then◌else◌, Option, None, Some, slice_index_or}
-use Rattle.oxt_fields.specs.Written.{is_steady, meant}
+use Rattle.oxt_fields.specs.Written.{is_steady}
 use Rattle.oxt_grammar.specs.Places.{same_kind}
 use Rattle.oxt_grammar.specs.declared.kind.Kind.{Kind}
 use Rattle.oxt_grammar.specs.declared.kind.Kind.TheVariants as kind
 use Rattle.oxt_names.specs.declared.ids.SymbolId.{SymbolId}
+use Rattle.oxt_scoping.specs.Meant.{meant}
 use Rattle.oxt_scoping.specs.Scoped.{Scoped}
 use Rattle.oxt_search.specs.Sought.{Sought}
 use Rattle.oxt_tree.specs.declared.inside.Inside.TheVariants as inside

@@ -1,5 +1,5 @@
 -- Names that nothing writes to.
-use Rattle.std.specs.Prelude.{ℕ, List, Bool, false, not, ◌&&◌, ◌==◌, if◌then◌else◌, Option, None, Some, slice_get}
+use Rattle.std.specs.Prelude.{ℕ, List, Bool, false, not, ◌&&◌, ◌==◌, if◌then◌else◌, Option, None, Some}
 use Rattle.std.specs.Int.RustNames.{bit_and}
 use Rattle.std.specs.List.{list_any}
 use Rattle.oxt_grammar.specs.Places.{same_kind}
@@ -7,9 +7,9 @@ use Rattle.oxt_grammar.specs.declared.kind.Kind.{Kind}
 use Rattle.oxt_grammar.specs.declared.kind.Kind.TheVariants as kind
 use Rattle.oxt_names.specs.declared.flags.SymbolFlags.{SymbolFlags}
 use Rattle.oxt_names.specs.declared.ids.ReferenceId.{ReferenceId}
-use Rattle.oxt_names.specs.declared.ids.SymbolId.{SymbolId}
 use Rattle.oxt_scoping.specs.Entries.{SymbolData}
-use Rattle.oxt_scoping.specs.Scoped.{Scoped, at_node, live_at, still}
+use Rattle.oxt_scoping.specs.Meant.{meant, symbol_in}
+use Rattle.oxt_scoping.specs.Scoped.{Scoped, live_at}
 use Rattle.oxt_scoping.specs.declared.entry.Reference.{Reference}
 use Rattle.oxt_scoping.specs.declared.entry.Slot.{Slot}
 use Rattle.oxt_search.specs.All.{all_in}
@@ -45,26 +45,7 @@ abbrev pub is_steady_symbol : List Slot → Option SymbolData → Bool
 is_steady_symbol ss None = false
 is_steady_symbol ss (Some y) = is_steady ss y
 
--- the symbol of that number, if there is one
-abbrev pub symbol_in : List SymbolData → Option SymbolId → Option SymbolData
-symbol_in ys None = None
-symbol_in ys (Some i) = slice_get ys i.0
-
 -- ---- names
-
--- the symbol that a reference means
-abbrev pub meant_by : Option Reference → Option SymbolId
-meant_by None = None
-meant_by (Some r) = r.symbol
-
--- the same of a reference by its number
-abbrev pub meant_by_number : Scoped → Option ReferenceId → Option SymbolId
-meant_by_number s None = None
-meant_by_number s (Some r) = meant_by (live_at s.references r.0)
-
--- the symbol that the node of that number means
-abbrev pub meant : Scoped → ℕ → Option SymbolId
-meant s n = meant_by_number s (still s.references (at_node (record { 0 = n }) s.named))
 
 -- the node, if it means a symbol that keeps its value
 abbrev pub steady_at : Scoped → Kind → ℕ → Option ℕ

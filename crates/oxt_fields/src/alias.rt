@@ -1,6 +1,6 @@
 //! Names that are read as the alias of a decorated class.
 ghost use Rattle.std.specs.List.{list_any};
-ghost use Rattle.std.specs.Prelude.{◌≡◌, ◌++◌, ℕ, IfOk, None, OnOk, if◌then◌else◌, option_map};
+ghost use Rattle.std.specs.Prelude.{◌≡◌, ◌++◌, ℕ, None, OnOk, if◌then◌else◌, option_map};
 ghost use Rattle.oxt_fields.specs.Aliases.{but, class_uses, declared_by, field_by, in_declared, in_element, inside_by, inside_code, inside_element, inside_erased, is_gone, is_seen, is_type, is_written_inside, same_symbol, type_kinds, use_at, uses, with};
 ghost use Rattle.oxt_fields.specs.Rules.{rules_view};
 ghost use Rattle.oxt_grammar.specs.Field.{row_view};
@@ -11,7 +11,6 @@ ghost use Rattle.oxt_tree.specs.View.{doc_or_nil, docs_in, node_doc};
 
 use crate::fate::{Fate, fate_of};
 use crate::rules::FieldRules;
-use crate::steady::meant;
 use oxt_declares::class::{elements_of, is_constructor};
 use oxt_declares::dropped::{is_declared_field, is_dropped};
 use oxt_grammar::category::Category;
@@ -155,7 +154,7 @@ fn use_at(
 ) -> Option<(NodeId, NodeId)>
     ensures { option_map (λ pair. (pair.0.0, pair.1.0)) result ≡ use_at scoping.now symbol class.0 kind node.0 }
 {
-    if kind.is(Kind::IdentifierReference) && is_same_symbol(meant(scoping, node), symbol) {
+    if kind.is(Kind::IdentifierReference) && is_same_symbol(scoping.meaning_of(node), symbol) {
         Some((node, class))
     } else {
         None

@@ -1,7 +1,7 @@
 //! What becomes of the fields of a class.
 ghost use Rattle.std.specs.List.{list_any};
 ghost use Rattle.std.specs.Prelude.{◌≡◌, codes, option_map};
-ghost use Rattle.oxt_fields.specs.Fates.{assigned_fate, constant_of, defined_fate, empty_fate, fate, field_fate, has_value, hoists_private, holds_call_key, is_alias, is_field, is_held, is_hoisting, is_kept_empty, is_moving, is_plain_template, is_private, is_repeated_kind, is_static, is_steady_kind, is_stored, keeps_as, keeps_empty, key_constant, moves_to_constructor, moving_fate, needs_call_temporary, needs_temporary, repeated_kinds, steady_kinds, stored_fate, unwrapped};
+ghost use Rattle.oxt_fields.specs.Fates.{assigned_fate, defined_fate, empty_fate, fate, field_fate, has_value, hoists_private, holds_call_key, is_alias, is_field, is_held, is_hoisting, is_kept_empty, is_moving, is_plain_template, is_private, is_repeated_kind, is_static, is_steady_kind, is_stored, keeps_as, keeps_empty, key_constant, moves_to_constructor, moving_fate, needs_call_temporary, needs_temporary, repeated_kinds, steady_kinds, stored_fate, unwrapped};
 ghost use Rattle.oxt_fields.specs.Rules.{rules_view};
 ghost use Rattle.oxt_names.specs.Constant.{constant_view};
 ghost use Rattle.oxt_tree.specs.Fields.{named};

@@ -1,12 +1,12 @@
 //! Symbols that keep their values.
 ghost use Rattle.std.specs.Prelude.{◌≡◌, ◌<◌, IfOk, length, option_map, slice_get};
 ghost use Rattle.oxt_fields.specs.Marks.{mark_at, steady_symbols};
-ghost use Rattle.oxt_fields.specs.Written.{is_steady, is_steady_by, is_written, meant, writes};
+ghost use Rattle.oxt_fields.specs.Written.{is_steady, is_steady_by, is_written, writes};
 ghost use Rattle.oxt_scoping.specs.Scoped.{live_at};
 
 use bitflags::Flags;
 use oxt_names::flags::{ReferenceFlags, SymbolFlags};
-use oxt_names::ids::{NodeId, OutOfMemory, ReferenceId, SymbolId};
+use oxt_names::ids::{OutOfMemory, ReferenceId, SymbolId};
 use oxt_scoping::scoping::Scoping;
 use std::alloc::Global;
 
@@ -72,11 +72,4 @@ fn is_writing(scoping: &Scoping, reference: ReferenceId) -> bool
     } else {
         false
     }
-}
-
-/// The symbol that the node means.
-pub fn meant(scoping: &Scoping, node: NodeId) -> Option<SymbolId>
-    ensures { result ≡ meant scoping.now node.0 }
-{
-    scoping.get_reference(scoping.reference_of(node)?).symbol
 }

@@ -3,10 +3,9 @@ ghost use Rattle.std.specs.Prelude.{◌≡◌, ◌++◌, IfOk, OnOk, codes, opti
 ghost use Rattle.std.specs.List.{list_all};
 ghost use Rattle.oxt_tree.specs.Fields.{field_of, named, text_in};
 ghost use Rattle.oxt_names.specs.Names.{name_bytes};
-ghost use Rattle.oxt_tree.specs.View.{docs_in, node_doc, part_doc};
+ghost use Rattle.oxt_tree.specs.View.{docs_in, node_doc};
 ghost use Rattle.oxt_names.specs.Made.{is_digit};
 ghost use Rattle.oxt_fields.specs.Text.{first_text, if_identifier, is_identifier, is_letter, is_read_inside, is_within_identifier, member_text, name_text, or_no_name, own_text};
-ghost use Rattle.oxt_grammar.specs.Keys.{key_of};
 
 use oxt_grammar::field::Field;
 use oxt_grammar::kind::Kind;

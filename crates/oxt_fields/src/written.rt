@@ -1,12 +1,12 @@
 //! Names that nothing writes to.
-ghost use Rattle.std.specs.Prelude.{◌≡◌, ℕ, IfOk, map, option_map};
+ghost use Rattle.std.specs.Prelude.{◌≡◌, ℕ, IfOk, option_map};
 ghost use Rattle.oxt_fields.specs.Marks.{marked, marked_at};
 ghost use Rattle.oxt_fields.specs.Written.{never_written, number_of};
 ghost use Rattle.oxt_options.specs.Lists.{numbers_in};
 ghost use Rattle.oxt_search.specs.All.{all_in};
 ghost use Rattle.oxt_tree.specs.View.{node_doc};
 
-use crate::steady::{mark_at, meant, steady_symbols};
+use crate::steady::{mark_at, steady_symbols};
 use oxt_grammar::holds::Row;
 use oxt_grammar::kind::Kind;
 use oxt_names::ids::{NodeId, OutOfMemory};
@@ -81,7 +81,7 @@ impl<'a, 'b> Search for Marked<'a, 'b> {
 fn marked_at(scoping: &Scoping, marks: &[bool], kind: Kind, node: NodeId) -> Option<NodeId>
     ensures { option_map number_of result ≡ marked_at scoping.now marks.now kind node.0 }
 {
-    if kind.is(Kind::IdentifierReference) && mark_at(marks, meant(scoping, node)) {
+    if kind.is(Kind::IdentifierReference) && mark_at(marks, scoping.meaning_of(node)) {
         Some(node)
     } else {
         None

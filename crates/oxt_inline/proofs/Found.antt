@@ -2,12 +2,12 @@
 use Rattle.std.proofs.Common.{◌≡◌, ◌∙◌, refl, sym, ap, ℕ, List, Bool, true, false, cond, Option, None, Some, option_map}
 use Rattle.std.specs.Prelude.{slice_get}
 use Rattle.oxt_inline.specs.Constants.{member, with_value}
-use Rattle.oxt_inline.specs.Names.{symbol_in}
 use Rattle.oxt_inline.specs.Values.{Named, constant_in_enum, is_optimized, is_optimized_at}
 use Rattle.oxt_names.specs.Constant.{Constant}
 use Rattle.oxt_names.specs.declared.ids.SymbolId.{SymbolId}
 use Rattle.oxt_options.specs.Options.{TypeScriptData}
 use Rattle.oxt_scoping.specs.Entries.{SymbolData, begins_const}
+use Rattle.oxt_scoping.specs.Meant.{symbol_in}
 use Rattle.oxt_scoping.specs.Scoped.{Scoped}
 
 -- a member with a constant

@@ -6,13 +6,14 @@ use Rattle.oxt_enums.specs.Tables.{Name, at_name}
 use Rattle.oxt_grammar.specs.Places.{same_kind}
 use Rattle.oxt_grammar.specs.declared.kind.Kind.{Kind}
 use Rattle.oxt_grammar.specs.declared.kind.Kind.TheVariants as kind
-use Rattle.oxt_inline.specs.Names.{named_symbol, symbol_in}
+use Rattle.oxt_inline.specs.Names.{named_symbol}
 use Rattle.oxt_inline.specs.declared.constants.Constants.{Constants}
 use Rattle.oxt_inline.specs.declared.constants.Valued.{Valued}
 use Rattle.oxt_names.specs.Constant.{Constant, constant_view}
 use Rattle.oxt_names.specs.declared.constant.ConstantValue.{ConstantValue}
 use Rattle.oxt_names.specs.declared.ids.SymbolId.{SymbolId}
 use Rattle.oxt_scoping.specs.Entries.{SymbolData}
+use Rattle.oxt_scoping.specs.Meant.{symbol_in}
 use Rattle.oxt_scoping.specs.Scoped.{Scoped, at_node}
 use Rattle.oxt_search.specs.All.{all_in}
 use Rattle.oxt_search.specs.Sought.{Sought}

@@ -1,6 +1,5 @@
 //! The expressions that stand for a constant of a member of an enum.
-ghost use Rattle.std.specs.Prelude.{◌≡◌, ℕ, IfOk, codes, map, option_map};
-ghost use Rattle.oxt_grammar.specs.Field.{row_view};
+ghost use Rattle.std.specs.Prelude.{◌≡◌, ℕ, IfOk, map, option_map};
 ghost use Rattle.oxt_inline.specs.Inlined.{chain_constant, constant_at, constant_of, inlined, inlined_at, inlined_view, inlined_with, sought};
 ghost use Rattle.oxt_inline.specs.Constants.{table_at};
 ghost use Rattle.oxt_names.specs.Constant.{Constant, constant_view};

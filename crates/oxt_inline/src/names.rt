@@ -1,10 +1,10 @@
 //! What names mean, and which symbols they declare.
 ghost use Rattle.std.specs.Prelude.{◌≡◌, ◌<◌, IfSome, length};
-ghost use Rattle.oxt_inline.specs.Names.{meant_at, meant_by, named_symbol};
+ghost use Rattle.oxt_inline.specs.Names.{meant_by, named_symbol};
 ghost use Rattle.oxt_tree.specs.View.{doc_or_nil};
 
 use oxt_grammar::kind::Kind;
-use oxt_names::ids::{NodeId, SymbolId};
+use oxt_names::ids::SymbolId;
 use oxt_scoping::scoping::Scoping;
 use oxt_tree::tree::Part;
 
@@ -14,17 +14,10 @@ pub fn meant_by(scoping: &Scoping, name: Option<&Part>) -> Option<SymbolId>
 {
     match name {
         Some(Part::Node(node)) if node.kind.is(Kind::IdentifierReference) => {
-            meant_at(scoping, node.id)
+            scoping.meaning_of(node.id)
         }
         _ => None,
     }
-}
-
-/// The symbol that the name of that number means.
-fn meant_at(scoping: &Scoping, node: NodeId) -> Option<SymbolId>
-    ensures { result ≡ meant_at scoping.now node.0 }
-{
-    scoping.get_reference(scoping.reference_of(node)?).symbol
 }
 
 /// The symbol that the node there declares.

@@ -8,14 +8,11 @@ use crate::members::{Taken, members_in, take_members};
 use crate::rename::IdentifierReferenceRename;
 use oxt_ctx::context::TraverseCtx;
 use oxt_ctx::nodes::{assignment, declaration, statement};
-use oxt_grammar::kind::Kind;
 use oxt_grammar::word::Word;
 use oxt_names::flags::ReferenceFlags;
-use oxt_names::ids::{NodeIds, OutOfMemory};
-use oxt_names::name::Name;
-use oxt_tree::tree::{Node, Part};
+use oxt_names::ids::OutOfMemory;
+use oxt_tree::tree::Node;
 use std::alloc::Global;
-use std::vec;
 
 /// What stands in the place of the block, which is no longer used.
 pub fn lower_block(

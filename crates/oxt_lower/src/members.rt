@@ -3,7 +3,6 @@
 use crate::rename::IdentifierReferenceRename;
 use oxt_declares::declares::member_name;
 use oxt_grammar::field::Field;
-use oxt_grammar::kind::Kind;
 use oxt_names::constant::ConstantValue;
 use oxt_names::ids::{NodeId, OutOfMemory};
 use oxt_names::name::Name;

@@ -9,7 +9,6 @@ use oxt_ctx::context::TraverseCtx;
 use oxt_ctx::nodes::{
     alternative, assignment, declaration, empty_object, make, member, property_name, statement,
 };
-use oxt_grammar::field::Field;
 use oxt_grammar::kind::Kind;
 use oxt_grammar::word::Word;
 use oxt_names::flags::{ReferenceFlags, SymbolFlags};

@@ -12,7 +12,7 @@
 //! b = f(E.a, { a: E.a }, (c = E.a) => c)
 //! ```
 ghost use Rattle.std.specs.Prelude.{◌≡◌, ◌<◌, ◌≤◌, IfOk, OnOk, length, nat_le, nat_lt, slice_get, true, ◌&&◌};
-ghost use Rattle.oxt_lower.specs.Named.{is_here, is_member, is_member_of, is_member_use, means_member};
+ghost use Rattle.oxt_lower.specs.Named.{is_here, is_member, is_member_of, means_member};
 ghost use Rattle.oxt_lower.specs.Spare.{IsLight, spare_before};
 ghost use Rattle.oxt_tree.specs.View.{node_doc};
 ghost use Rattle.oxt_visit.specs.Weight.{weight};
@@ -24,10 +24,9 @@ use oxt_ctx::context::TraverseCtx;
 use oxt_ctx::nodes::{member, property_name, reference};
 use oxt_grammar::field::Field;
 use oxt_grammar::kind::Kind;
-use oxt_names::flags::{ReferenceFlags, SymbolFlags};
+use oxt_names::flags::SymbolFlags;
 use oxt_names::ids::{NodeId, NodeIds, OutOfMemory, ScopeId, SymbolId};
 use oxt_names::name::Name;
-use oxt_scoping::entry::Reference;
 use oxt_scoping::scoping::Scoping;
 use oxt_tree::tree::Node;
 use oxt_visit::visitor::VisitJsMut;
@@ -101,17 +100,7 @@ impl<'a> IdentifierReferenceRename<'a> {
     pub fn means_member(&self, node: NodeId) -> bool
         ensures { result ≡ means_member self.now.scoping.now self.now.scope node.0 }
     {
-        match self.scoping.reference_of(node) {
-            Some(reference) => self.is_member_use(self.scoping.get_reference(reference)),
-            None => false,
-        }
-    }
-
-    /// Whether the reference means a member of the enum as a value.
-    fn is_member_use(&self, reference: &Reference) -> bool
-        ensures { result ≡ is_member_use self.now.scoping.now self.now.scope reference.now }
-    {
-        !reference.flags.intersects(ReferenceFlags::TypeUse) && self.is_member_of(reference.symbol)
+        self.is_member_of(self.scoping.value_meaning_of(node))
     }
 
     /// Whether the symbol is a member of the enum.

@@ -5,13 +5,14 @@ use Rattle.oxt_grammar.specs.Field.{Field}
 use Rattle.oxt_grammar.specs.Places.{same_kind}
 use Rattle.oxt_grammar.specs.declared.kind.Kind.{Kind}
 use Rattle.oxt_grammar.specs.declared.kind.Kind.TheVariants as kind
-use Rattle.oxt_metadata.specs.Meant.{declared_by, meant}
+use Rattle.oxt_metadata.specs.Meant.{declared_by}
 use Rattle.oxt_metadata.specs.Shapes.{shape_of}
 use Rattle.oxt_metadata.specs.declared.events.Around.{Around}
 use Rattle.oxt_metadata.specs.declared.events.Around.TheVariants as around
 use Rattle.oxt_metadata.specs.declared.events.Event.{Event}
 use Rattle.oxt_metadata.specs.declared.events.Event.TheVariants as event
 use Rattle.oxt_names.specs.declared.ids.SymbolId.{SymbolId}
+use Rattle.oxt_scoping.specs.Meant.{meant}
 use Rattle.oxt_scoping.specs.Scoped.{Scoped}
 use Rattle.oxt_search.specs.All.{all_in}
 use Rattle.oxt_search.specs.Sought.{Sought}

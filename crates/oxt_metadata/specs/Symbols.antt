@@ -1,11 +1,11 @@
 -- The symbols that metadata names.
 use Rattle.std.specs.Prelude.{ℕ, List, [], ◌∷◌, ◌++◌, map, Bool, false, nat_eq, Option, None, Some}
 use Rattle.std.specs.List.{list_any}
-use Rattle.oxt_metadata.specs.Meant.{meant}
 use Rattle.oxt_metadata.specs.declared.annotations.Annotation.{Annotation}
 use Rattle.oxt_names.specs.declared.ids.SymbolId.{SymbolId}
 use Rattle.oxt_options.specs.declared.metadata.MetadataType.{MetadataType}
 use Rattle.oxt_options.specs.declared.metadata.MetadataType.TheVariants as metadata_type
+use Rattle.oxt_scoping.specs.Meant.{meant}
 use Rattle.oxt_scoping.specs.Scoped.{Scoped}
 use Rattle.oxt_names.specs.declared.ids.NodeId.{NodeId}
 

@@ -8,7 +8,7 @@ use Rattle.oxt_grammar.specs.declared.kind.Kind.TheVariants as kind
 use Rattle.oxt_metadata.specs.DottedNames.{root}
 use Rattle.oxt_metadata.specs.Forms.{form_of}
 use Rattle.oxt_metadata.specs.Joins.{joined_type, object, with_member}
-use Rattle.oxt_metadata.specs.Meant.{is_type_alone, meant}
+use Rattle.oxt_metadata.specs.Meant.{is_type_alone}
 use Rattle.oxt_metadata.specs.Shapes.{shape_name}
 use Rattle.oxt_metadata.specs.Sights.{Seeing}
 use Rattle.oxt_metadata.specs.declared.form.Form.{Form}
@@ -25,6 +25,7 @@ use Rattle.oxt_tree.specs.Doc.{Doc, nil, flag, number, text, list, node, Docs, n
 use Rattle.oxt_tree.specs.Fields.{is_kind, is_text, field_of, named}
 use Rattle.oxt_tree.specs.View.{docs_in}
 use Rattle.oxt_tree.specs.declared.tree.Node.{Node}
+use Rattle.oxt_scoping.specs.Meant.{meant}
 
 -- ---- names
 

@@ -29,7 +29,7 @@ use oxt_options::metadata::MetadataType;
 use oxt_options::options::DecoratorOptions;
 use oxt_scoping::scoping::Scoping;
 use oxt_search::all::all_in;
-use oxt_search::search::{Inside, Search, Visit};
+use oxt_search::search::{Search, Visit};
 use oxt_tree::tree::Node;
 use std::alloc::Global;
 

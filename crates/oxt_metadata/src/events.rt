@@ -2,11 +2,11 @@
 ghost use Rattle.std.specs.Prelude.{◌≡◌, IfOk};
 ghost use Rattle.oxt_grammar.specs.Field.{row_view};
 ghost use Rattle.oxt_metadata.specs.Events.{block_at, event_at, events, field_around, inside_around, is_counted, name_at, sought};
-ghost use Rattle.oxt_metadata.specs.Meant.{declared_by, meant};
+ghost use Rattle.oxt_metadata.specs.Meant.{declared_by};
 ghost use Rattle.oxt_tree.specs.View.{doc_or_nil, docs_in, node_doc};
 
 use crate::shape::{Shape, shape_of};
-use crate::symbols::{declared_by, meant};
+use crate::symbols::declared_by;
 use oxt_declares::dropped::{is_declared_field, is_dropped};
 use oxt_grammar::field::Field;
 use oxt_grammar::holds::Row;
@@ -132,7 +132,7 @@ fn name_at(scoping: &Scoping, name: Option<&Part>) -> Option<Event>
     ensures { result ≡ name_at scoping.now (doc_or_nil name.entry) }
 {
     match name {
-        Some(Part::Node(name)) => Some(Event::Name(name.id, meant(scoping, name.id)?)),
+        Some(Part::Node(name)) => Some(Event::Name(name.id, scoping.meaning_of(name.id)?)),
         _ => None,
     }
 }

@@ -1,6 +1,6 @@
 //! What names mean, and the symbols that metadata names.
 ghost use Rattle.std.specs.Prelude.{◌≡◌, ℕ, ◌<◌, ◌++◌, [], IfOk, OnOk, Some, length, slice_get};
-ghost use Rattle.oxt_metadata.specs.Meant.{declared_by, is_type_alone, is_type_alone_at, is_value, meant};
+ghost use Rattle.oxt_metadata.specs.Meant.{declared_by, is_type_alone, is_type_alone_at, is_value};
 ghost use Rattle.oxt_metadata.specs.Symbols.{is_in, named_by, named_in, numbers_in};
 ghost use Rattle.oxt_tree.specs.View.{doc_or_nil};
 
@@ -16,13 +16,6 @@ use std::alloc::Global;
 use std::collections::HashSet;
 use std::marker::Model;
 
-/// The symbol that the name which is the node means.
-pub fn meant(scoping: &Scoping, node: NodeId) -> Option<SymbolId>
-    ensures { result ≡ meant scoping.now node.0 }
-{
-    scoping.get_reference(scoping.reference_of(node)?).symbol
-}
-
 /// The symbol that the part declares.
 pub(crate) fn declared_by(scoping: &Scoping, name: Option<&Part>) -> Option<SymbolId>
     ensures { result ≡ declared_by scoping.now (doc_or_nil name.entry) }
@@ -37,7 +30,7 @@ pub(crate) fn declared_by(scoping: &Scoping, name: Option<&Part>) -> Option<Symb
 pub(crate) fn is_type_alone(scoping: &Scoping, node: NodeId) -> bool
     ensures { result ≡ is_type_alone scoping.now node.0 }
 {
-    match meant(scoping, node) {
+    match scoping.meaning_of(node) {
         Some(symbol) => scoping.has_symbol(symbol) && is_declared_type(scoping, symbol),
         None => false,
     }
@@ -140,7 +133,7 @@ fn push_named(
         ≡ numbers_in symbols.old.items ++ named_by scoping.now written) }
 {
     if let MetadataType::Reference { root, .. } = written {
-        if let Some(symbol) = meant(scoping, root) {
+        if let Some(symbol) = scoping.meaning_of(root) {
             symbols.push(symbol)?;
         }
     }

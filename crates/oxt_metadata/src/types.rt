@@ -10,7 +10,7 @@ use crate::form::{Form, Join, form_of};
 use crate::join::{Joined, joined_type, object, with_member};
 use crate::name::root_of;
 use crate::sight::Sight;
-use crate::symbols::{is_type_alone, meant};
+use crate::symbols::is_type_alone;
 use oxt_grammar::field::Field;
 use oxt_grammar::kind::Kind;
 use oxt_options::metadata::{GlobalName, MetadataType};
@@ -141,7 +141,7 @@ fn single_type(sight: Sight, name: &Node) -> MetadataType
 fn is_readonly_array(sight: Sight, name: &Node) -> bool
     ensures { result ≡ is_readonly_array (sight_view sight.entry) (node_doc name.now) }
 {
-    meant(sight.scoping, name.id).is_none() && name.holds_text(Field::Name, "ReadonlyArray")
+    sight.scoping.meaning_of(name.id).is_none() && name.holds_text(Field::Name, "ReadonlyArray")
 }
 
 /// What it writes for a name whose first name that is: nothing closer than `Object` where that is `this`, or means nothing but

@@ -1,13 +1,13 @@
 -- Marked names, and what of references was passed.
-use Rattle.std.proofs.Common.{◌≡◌, ◌∙◌, refl, sym, ap, subst, ℕ, zero, suc, ◌+◌, ◌-◌, ◌<◌, ◌≤◌, List, [], ◌∷◌, ◌++◌, length, map, drop, get_or, Bool, true, false, not, ◌&&◌, ◌||◌, cond, Option, None, Some, option_map, is_some, arith}
+use Rattle.std.proofs.Common.{◌≡◌, ◌∙◌, refl, sym, ap, subst, ℕ, zero, suc, ◌+◌, ◌-◌, ◌<◌, ◌≤◌, List, [], ◌∷◌, ◌++◌, length, drop, get_or, Bool, true, false, not, ◌&&◌, ◌||◌, cond, Option, None, Some, option_map, is_some, arith}
 use Rattle.std.proofs.lemmas.List.Folds.{list_any-append}
 use Rattle.std.proofs.lemmas.Option.{slice_get-map}
 use Rattle.std.specs.Int.RustNames.{bit_and}
 use Rattle.std.specs.List.{list_any}
 use Rattle.std.specs.Map.{lookup}
 use Rattle.std.specs.Prelude.{nat_eq, nat_lt, slice_get, unwrap_or, ◌==◌}
-use Rattle.oxt_modules.specs.Marked.{IsPassed, adds, beside, first_use, is_unused, is_use, is_value, marked_by, marked_in, passed_at, unless, used_beside}
-use Rattle.oxt_modules.specs.Names.{has_value_use, is_value_use, references_of, symbol_in}
+use Rattle.oxt_modules.specs.Marked.{IsPassed, adds, beside, first_use, is_use, is_value, marked_by, marked_in, passed_at, unless, used_beside}
+use Rattle.oxt_modules.specs.Names.{has_value_use, is_value_use, references_of}
 use Rattle.oxt_names.specs.declared.ids.ReferenceId.{ReferenceId}
 use Rattle.oxt_names.specs.declared.ids.SymbolId.{SymbolId}
 use Rattle.oxt_options.specs.Facts.{is_in}

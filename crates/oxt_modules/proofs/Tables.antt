@@ -1,17 +1,18 @@
 -- What is asked of a symbol is answered by the one that is found.
-use Rattle.std.proofs.Common.{ℕ, ◌+◌, ◌<◌, ◌≤◌, ◌==◌, ◌≡◌, ◌∙◌, refl, sym, ap, List, [], ◌∷◌, ◌++◌, map, length, take, get_or, Bool, true, false, not, ◌&&◌, ◌||◌, if◌then◌else◌, find, Option, None, Some, option_map}
+use Rattle.std.proofs.Common.{ℕ, ◌+◌, ◌<◌, ◌≤◌, ◌==◌, ◌≡◌, ◌∙◌, refl, sym, ap, List, [], ◌∷◌, ◌++◌, map, length, take, Bool, true, false, not, ◌&&◌, ◌||◌, if◌then◌else◌, find, Option, None, Some, option_map}
 use Rattle.std.proofs.lemmas.Bool.{eqb-true}
-use Rattle.std.proofs.lemmas.List.{map-append, take_all, take_more}
+use Rattle.std.proofs.lemmas.List.{take_all, take_more}
 use Rattle.std.proofs.lemmas.Option.{get_or_from_slice_get, slice_get-map, slice_get_within}
 use Rattle.std.specs.List.{list_any}
 use Rattle.std.specs.Prelude.{slice_get}
-use Rattle.oxt_modules.specs.Names.{declarations_of, emits_nothing, has_other_value, has_value_use, references_of, symbol_in}
+use Rattle.oxt_modules.specs.Names.{declarations_of, emits_nothing, has_other_value, has_value_use, references_of}
 use Rattle.oxt_modules.specs.Symbols.{asked, besides, declares_besides, first_value, has_another}
 use Rattle.oxt_modules.specs.declared.symbols.SymbolAnswers.{SymbolAnswers}
 use Rattle.oxt_names.specs.Flags.{is_type_alone}
 use Rattle.oxt_names.specs.declared.ids.ReferenceId.{ReferenceId}
 use Rattle.oxt_names.specs.declared.ids.SymbolId.{SymbolId}
 use Rattle.oxt_scoping.specs.Entries.{SymbolData}
+use Rattle.oxt_scoping.specs.Meant.{symbol_in}
 use Rattle.oxt_scoping.specs.declared.entry.Redeclaration.{Redeclaration}
 use Rattle.oxt_scoping.specs.declared.entry.Slot.{Slot}
 use Rattle.oxt_names.specs.declared.ids.NodeId.{NodeId}

@@ -1,17 +1,18 @@
 -- The names in `import a = B.C` that are no uses of what they mean, since nothing uses `a`.
-use Rattle.std.specs.Prelude.{ℕ, zero, suc, ◌+◌, ◌≤◌, ◌==◌, nat_eq, List, [], ◌∷◌, ◌++◌, Bool, false, not, ◌&&◌, if◌then◌else◌, Option, None, Some, unwrap_or, map, slice_get, codes}
+use Rattle.std.specs.Prelude.{ℕ, ◌+◌, ◌≤◌, ◌==◌, nat_eq, List, [], ◌∷◌, ◌++◌, Bool, false, not, ◌&&◌, if◌then◌else◌, Option, None, Some, unwrap_or, map, slice_get, codes}
 use Rattle.std.specs.Int.RustNames.{bit_and}
 use Rattle.std.specs.Map.{lookup}
 use Rattle.oxt_grammar.specs.Places.{same_kind}
 use Rattle.oxt_grammar.specs.declared.kind.Kind.{Kind}
 use Rattle.oxt_grammar.specs.declared.kind.Kind.TheVariants as kind
 use Rattle.oxt_declares.specs.Imports.{is_alias}
-use Rattle.oxt_modules.specs.Names.{has_value_use, is_used, is_value_use, references_of, symbol_in}
+use Rattle.oxt_modules.specs.Names.{has_value_use, is_used, is_value_use, references_of}
 use Rattle.oxt_names.specs.declared.ids.ReferenceId.{ReferenceId}
 use Rattle.oxt_names.specs.declared.ids.SymbolId.{SymbolId}
 use Rattle.oxt_options.specs.Facts.{is_in}
 use Rattle.oxt_options.specs.Options.{TypeScriptData}
-use Rattle.oxt_scoping.specs.Scoped.{Scoped, at_node, live_at}
+use Rattle.oxt_scoping.specs.Meant.{symbol_in}
+use Rattle.oxt_scoping.specs.Scoped.{Scoped, live_at}
 use Rattle.oxt_scoping.specs.declared.entry.Reference.{Reference}
 use Rattle.oxt_scoping.specs.declared.entry.Slot.{Slot}
 use Rattle.oxt_search.specs.First.{first_in}

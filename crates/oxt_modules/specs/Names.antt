@@ -1,9 +1,9 @@
 -- What the table says of the names of imports and exports.
-use Rattle.std.specs.Prelude.{ℕ, List, [], Bool, false, not, ◌&&◌, ◌==◌, nat_eq, Option, None, Some, slice_get}
+use Rattle.std.specs.Prelude.{ℕ, List, [], Bool, false, not, ◌&&◌, ◌==◌, Option, None, Some, slice_get}
 use Rattle.std.specs.Int.RustNames.{bit_and}
 use Rattle.std.specs.List.{list_any}
-use Rattle.std.specs.Map.{lookup}
 use Rattle.oxt_scoping.specs.Entries.{SymbolData}
+use Rattle.oxt_scoping.specs.Meant.{declared_symbol}
 use Rattle.oxt_scoping.specs.Scoped.{Scoped, binding_at, live_at}
 use Rattle.oxt_scoping.specs.declared.entry.Redeclaration.{Redeclaration}
 use Rattle.oxt_scoping.specs.declared.entry.Reference.{Reference}
@@ -11,15 +11,6 @@ use Rattle.oxt_scoping.specs.declared.entry.Slot.{Slot}
 use Rattle.oxt_names.specs.Flags.{is_type_alone}
 use Rattle.oxt_names.specs.declared.ids.ReferenceId.{ReferenceId}
 use Rattle.oxt_names.specs.declared.ids.SymbolId.{SymbolId}
-
--- a symbol by its number, if there is one
-abbrev pub symbol_in : List SymbolData → Option SymbolId → Option SymbolData
-symbol_in ys None = None
-symbol_in ys (Some i) = slice_get ys i.0
-
--- the symbol that the node of that number declares
-abbrev pub declared_symbol : Scoped → ℕ → Option SymbolData
-declared_symbol s n = symbol_in s.symbols (lookup (nat_eq n) s.declared)
 
 -- the declarations of a symbol
 abbrev pub declarations_of : Option SymbolData → List Redeclaration

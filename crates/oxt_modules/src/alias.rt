@@ -1,7 +1,7 @@
 //! Which declarations `import a = ..` a program has, and the names of those that are not kept.
 ghost use Rattle.std.specs.Prelude.{◌≡◌, ◌++◌, IfOk, OnOk, Some};
 ghost use Rattle.oxt_modules.specs.Aliases.{alias_at, alias_named, alias_search, aliases, left_out, left_out_name, left_out_names};
-ghost use Rattle.oxt_declares.specs.Imports.{is_alias, is_required};
+ghost use Rattle.oxt_declares.specs.Imports.{is_alias};
 ghost use Rattle.oxt_modules.specs.declared.alias.Alias.{Alias};
 ghost use Rattle.oxt_options.specs.Facts.{is_in};
 ghost use Rattle.oxt_options.specs.Lists.{numbers_in};

@@ -1,6 +1,6 @@
 //! The names that elements and fragments of JSX use.
 ghost use Rattle.std.specs.Prelude.{◌≡◌, ◌==◌, IfOk};
-ghost use Rattle.std.specs.List.{before_first, list_any};
+ghost use Rattle.std.specs.List.{list_any};
 ghost use Rattle.oxt_options.specs.Options.{typescript_view};
 ghost use Rattle.oxt_modules.specs.Jsx.{before_dot, is_element, is_fragment, is_jsx_name, jsx_nodes, jsx_use, live_inside, own_node, sought, use_of};
 ghost use Rattle.oxt_modules.specs.declared.jsx.JsxNode.{JsxNode};

@@ -1,7 +1,7 @@
 //! The names in `import a = B.C` that are no uses of what they mean, since nothing uses `a`.
 ghost use Rattle.std.specs.Prelude.{◌≡◌, ◌≤◌, ◌<◌, Some, ℕ, IfOk, IfSome, OnOk, length, option_map};
 ghost use Rattle.oxt_modules.specs.Marked.{IsPassed, adds, first_use, is_unused, is_use, marked, marked_by, marked_in, name_in, name_of, names, used_beside};
-ghost use Rattle.oxt_modules.specs.Names.{declared_symbol, has_value_use, is_used, references_of, symbol_in};
+ghost use Rattle.oxt_modules.specs.Names.{is_used};
 ghost use Rattle.oxt_options.specs.Options.{typescript_view};
 ghost use Rattle.oxt_tree.specs.View.{doc_or_nil, docs_in, node_doc, part_doc};
 

@@ -1,7 +1,8 @@
 //! What the table says of the names of imports and exports.
 ghost use Rattle.std.specs.Prelude.{◌≡◌, option_map};
-ghost use Rattle.oxt_modules.specs.Names.{declared_symbol, is_declared_again, is_name_kept, is_type_name, is_used};
+ghost use Rattle.oxt_modules.specs.Names.{is_declared_again, is_name_kept, is_type_name, is_used};
 ghost use Rattle.oxt_modules.specs.Symbols.{IsAnswered, asked, table_of};
+ghost use Rattle.oxt_scoping.specs.Meant.{declared_symbol};
 
 use crate::symbols::{SymbolAnswers, Symbols};
 use oxt_names::ids::NodeId;

@@ -1,9 +1,10 @@
 //! What imports and exports ask of the symbols of a table, answered once for each.
 ghost use Rattle.std.specs.List.{list_any};
 ghost use Rattle.std.specs.Prelude.{◌≡◌, ◌<◌, IfOk, length, option_map, slice_get};
-ghost use Rattle.oxt_modules.specs.Names.{has_other_value, has_value_use, symbol_in};
+ghost use Rattle.oxt_modules.specs.Names.{has_other_value, has_value_use};
 ghost use Rattle.oxt_modules.specs.Marked.{beside, is_use, is_value};
 ghost use Rattle.oxt_modules.specs.Symbols.{IsAnswered, all_asked, asked, declares_besides, first_value, has_another, table_of};
+ghost use Rattle.oxt_scoping.specs.Meant.{symbol_in};
 
 use bitflags::Flags;
 use oxt_names::flags::ReferenceFlags;

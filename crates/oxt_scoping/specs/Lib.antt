@@ -1,3 +1,4 @@
 pub mod Entries
 pub mod Lending
+pub mod Meant
 pub mod Scoped

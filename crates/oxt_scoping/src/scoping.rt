@@ -1,9 +1,10 @@
 //! The table of a program's scopes, symbols and references.
-ghost use Rattle.std.specs.Prelude.{◌≡◌, ◌<◌, ◌++◌, ◌∷◌, [], IfOk, IfSome, IsSome, IsTrue, IsOk, None, OnErr, OnOk, Some, false, is_some, length, nat_lt, option_map, slice_get, true};
+ghost use Rattle.std.specs.Prelude.{◌≡◌, ◌<◌, ◌++◌, ◌∷◌, [], IfOk, IfSome, IsSome, None, OnErr, OnOk, Some, false, is_some, length, nat_lt, option_map, slice_get, true};
 ghost use Rattle.oxt_names.specs.Constant.{constant_view};
 ghost use Rattle.oxt_names.specs.Names.{name_bytes};
 ghost use Rattle.oxt_names.specs.Made.{added, is_among, made_name};
 ghost use Rattle.oxt_scoping.specs.Entries.{begins_const, bodies_of};
+ghost use Rattle.oxt_scoping.specs.Meant.{meant, value_meant, value_use};
 ghost use Rattle.oxt_scoping.specs.Scoped.{Each, at_node, binding_at, found_outwards, live_at, new_scope, new_symbol, still, unbound_at, values_alone, with_body_at, with_declaration, with_opened_scope, with_reference, with_scope, with_symbol, with_value_at, without_reference};
 
 use crate::entry::{
@@ -14,6 +15,7 @@ use crate::places::{
     keep_values_in, push_reserved, put_at, put_back, refer_in, scope_at, set_value_in, slot_at,
     symbol_at, unbind_in,
 };
+use bitflags::Flags;
 use oxt_names::constant::ConstantValue;
 use oxt_names::flags::{ReferenceFlags, ScopeFlags, SymbolFlags};
 use oxt_names::ids::{NodeId, OutOfMemory, ReferenceId, ScopeId, SymbolId};
@@ -22,7 +24,6 @@ use oxt_names::uid::UidNames;
 use std::alloc::Global;
 use std::collections::BTreeMap;
 use std::marker::Model;
-use std::vec;
 
 /// The scopes, symbols and references of a program, and the names that are taken.
 #[derive(Drop)]
@@ -134,6 +135,33 @@ impl Scoping {
         } else {
             None
         }
+    }
+
+    /// The symbol that the node means; none where it is no name that is used, where its reference was
+    /// deleted, and where the name is free.
+    pub fn meaning_of(&self, node: NodeId) -> Option<SymbolId>
+        ensures { result ≡ meant self.now node.0 }
+    {
+        self.get_reference(self.reference_of(node)?).symbol
+    }
+
+    /// How the node is used, if it is a name that is used as a value and not in a type.
+    pub fn value_use_of(&self, node: NodeId) -> Option<Reference>
+        ensures { result ≡ value_use self.now node.0 }
+    {
+        let reference = self.get_reference(self.reference_of(node)?);
+        if reference.flags.contains(ReferenceFlags::TypeUse) {
+            None
+        } else {
+            Some(*reference)
+        }
+    }
+
+    /// The symbol that the node means, if it is a name that is used as a value and not in a type.
+    pub fn value_meaning_of(&self, node: NodeId) -> Option<SymbolId>
+        ensures { result ≡ value_meant self.now node.0 }
+    {
+        self.value_use_of(node)?.symbol
     }
 
     /// Whether there is a scope with the number.

@@ -1,5 +1,5 @@
-//! What a transform puts aside while it walks a tree: statements to stand beside others, and
-//! declarators to stand at the top of their lists.
+//! What a transform puts aside while it walks a tree: the statements that wait beside one statement,
+//! and the declarators that wait for the top of the lists that are being walked.
 #![tactic(auto)]
 
 pub mod bound;

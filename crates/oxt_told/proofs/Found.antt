@@ -4,8 +4,8 @@ use Rattle.std.specs.Prelude.{slice_get, ◌==◌}
 use Rattle.std.specs.BTreeMap.{insert_entry}
 use Rattle.std.specs.Ordering.{nat_cmp}
 use Rattle.oxt_facts.specs.Told.{Tellings, block, member, bare}
-use Rattle.oxt_modules.specs.Names.{symbol_in}
 use Rattle.oxt_scoping.specs.Entries.{SymbolData}
+use Rattle.oxt_scoping.specs.Meant.{symbol_in}
 use Rattle.oxt_scoping.specs.Scoped.{Scoped}
 use Rattle.oxt_scoping.specs.declared.entry.Reference.{Reference}
 use Rattle.oxt_names.specs.Constant.{Constant}

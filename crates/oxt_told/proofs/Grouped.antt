@@ -1,9 +1,9 @@
 -- The groups of names.
 use Rattle.std.proofs.Common.{◌≡◌, ◌∙◌, ap, ℕ, List, Option, None, Some, option_map}
 use Rattle.std.specs.Prelude.{slice_get}
-use Rattle.oxt_modules.specs.Names.{symbol_in}
 use Rattle.oxt_names.specs.declared.ids.SymbolId.{SymbolId}
 use Rattle.oxt_scoping.specs.Entries.{SymbolData}
+use Rattle.oxt_scoping.specs.Meant.{symbol_in}
 use Rattle.oxt_told.specs.Symbols.{first_node, group_of}
 
 -- the group of a symbol that is there

@@ -1,10 +1,10 @@
 -- What is said of the name of a class is said of the symbol that is found.
-use Rattle.std.proofs.Common.{◌≡◌, ◌∙◌, refl, sym, ap, ℕ, List, Bool, Option, None, Some, option_map, is_some}
+use Rattle.std.proofs.Common.{◌≡◌, ◌∙◌, refl, sym, ap, ℕ, List, Option, None, Some, option_map, is_some}
 use Rattle.std.specs.Prelude.{slice_get}
 use Rattle.oxt_facts.specs.Told.{Use}
-use Rattle.oxt_modules.specs.Names.{symbol_in}
 use Rattle.oxt_names.specs.declared.ids.SymbolId.{SymbolId}
 use Rattle.oxt_scoping.specs.Entries.{SymbolData}
+use Rattle.oxt_scoping.specs.Meant.{symbol_in}
 
 pub use_found : (ys : List SymbolData) (o : Option SymbolId) (i : SymbolId) (e : Option SymbolData) (f : SymbolData → Use) (u : Use) → Some i ≡ o → symbol_in ys o ≡ e
     → option_map f (slice_get ys i.0) ≡ Some u → Some u ≡ option_map f e

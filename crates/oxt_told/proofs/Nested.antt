@@ -5,9 +5,9 @@ use Rattle.std.specs.BTreeMap.{insert_entry}
 use Rattle.std.specs.Ordering.{nat_cmp}
 use Rattle.oxt_facts.specs.Told.{Names, Namespace, Tellings, names_view, space}
 use Rattle.oxt_facts.specs.declared.told.ToldName.{ToldName}
-use Rattle.oxt_modules.specs.Names.{declared_symbol, symbol_in}
 use Rattle.oxt_names.specs.declared.ids.SymbolId.{SymbolId}
 use Rattle.oxt_scoping.specs.Entries.{SymbolData}
+use Rattle.oxt_scoping.specs.Meant.{declared_symbol, symbol_in}
 use Rattle.oxt_scoping.specs.Scoped.{Scoped}
 use Rattle.oxt_told.proofs.Loops.{all_told-append}
 use Rattle.oxt_told.specs.Namespaces.{declarator_told, declarators_told, declared_names, named_told, node_names, namespace_of, with_groups}

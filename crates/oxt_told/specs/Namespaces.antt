@@ -9,8 +9,8 @@ use Rattle.oxt_grammar.specs.Places.{same_kind}
 use Rattle.oxt_grammar.specs.Rows.{row_of}
 use Rattle.oxt_grammar.specs.declared.kind.Kind.{Kind}
 use Rattle.oxt_grammar.specs.declared.kind.Kind.TheVariants as kind
-use Rattle.oxt_modules.specs.Names.{declared_symbol}
 use Rattle.oxt_scoping.specs.Entries.{SymbolData}
+use Rattle.oxt_scoping.specs.Meant.{declared_symbol}
 use Rattle.oxt_scoping.specs.Scoped.{Scoped}
 use Rattle.oxt_told.specs.Symbols.{first_node, group_of, named_symbol}
 use Rattle.oxt_told.specs.declared.seat.Seat.{Seat}

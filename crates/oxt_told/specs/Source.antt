@@ -1,15 +1,15 @@
 -- What is told of the enums of a source, of the expressions that are inlined, of what its `import =` and the specifiers of
 -- its modules become, and of its classes, by its table of scopes and symbols, by its plan, and by what is chosen.
-use Rattle.std.specs.Prelude.{ℕ, ◌==◌, List, [], ◌∷◌, ◌++◌, Bool, true, false, not, ◌&&◌, if◌then◌else◌, Option, None, Some, codes}
+use Rattle.std.specs.Prelude.{ℕ, ◌==◌, List, [], ◌∷◌, ◌++◌, Bool, true, false, ◌&&◌, if◌then◌else◌, Option, None, Some, codes}
 use Rattle.std.specs.BTreeMap.{insert_entry}
 use Rattle.std.specs.Ordering.{nat_cmp}
 use Rattle.oxt_facts.specs.Told.{Tellings, Value, block, member, bare, inlined, gone, constant, following, written}
-use Rattle.oxt_modules.specs.Names.{declared_symbol}
 use Rattle.oxt_options.specs.Facts.{Facts, alias_at, constant_at, is_in}
 use Rattle.oxt_options.specs.Metadata.{type_at}
 use Rattle.oxt_options.specs.declared.metadata.MetadataType.{MetadataType}
 use Rattle.oxt_options.specs.declared.rewrite.RewriteExtensionsMode.{RewriteExtensionsMode}
 use Rattle.oxt_scoping.specs.Entries.{SymbolData}
+use Rattle.oxt_scoping.specs.Meant.{declared_symbol}
 use Rattle.oxt_scoping.specs.Scoped.{Scoped, live_at}
 use Rattle.oxt_scoping.specs.declared.entry.Reference.{Reference}
 use Rattle.oxt_names.specs.Constant.{Constant}

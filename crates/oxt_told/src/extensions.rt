@@ -7,7 +7,7 @@ ghost use Rattle.oxt_told.specs.Source.{all_told};
 ghost use Rattle.oxt_tree.specs.Doc.{list};
 ghost use Rattle.oxt_tree.specs.Fields.{is_empty_list, named, text_in};
 ghost use Rattle.oxt_names.specs.Names.{name_bytes};
-ghost use Rattle.oxt_tree.specs.View.{docs_in, doc_or_nil, node_doc, part_doc};
+ghost use Rattle.oxt_tree.specs.View.{docs_in, doc_or_nil, node_doc};
 
 use oxt_facts::told::{Told, ToldNodes, ToldQuasi};
 use oxt_grammar::field::Field;

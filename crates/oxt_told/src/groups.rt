@@ -1,12 +1,11 @@
 //! The groups that names mean and declare, by the table of scopes and symbols.
 ghost use Rattle.std.specs.Prelude.{◌≡◌};
-ghost use Rattle.oxt_modules.specs.Names.{declared_symbol, symbol_in};
-ghost use Rattle.oxt_told.specs.Groups.{meant_by_number, own_group, symbol_meant};
+ghost use Rattle.oxt_told.specs.Groups.{own_group, symbol_meant};
 ghost use Rattle.oxt_told.specs.Symbols.{group_of};
 
 use crate::symbols::{declared_group, group_of};
 use oxt_grammar::kind::Kind;
-use oxt_names::ids::{NodeId, SymbolId};
+use oxt_names::ids::NodeId;
 use oxt_scoping::scoping::Scoping;
 
 /// The group that the node of that kind declares or means.
@@ -28,18 +27,8 @@ pub fn own_group(scoping: &Scoping, kind: Kind, node: NodeId) -> Option<u64>
 fn meant_group(scoping: &Scoping, node: NodeId) -> Option<u64>
     ensures { result ≡ group_of (symbol_meant scoping.now node.0) }
 {
-    match meant_symbol(scoping, node) {
+    match scoping.meaning_of(node) {
         Some(symbol) if scoping.has_symbol(symbol) => group_of(scoping, symbol),
         _ => None,
-    }
-}
-
-/// The symbol that the node means.
-fn meant_symbol(scoping: &Scoping, node: NodeId) -> Option<SymbolId>
-    ensures { symbol_in scoping.now.symbols result ≡ symbol_meant scoping.now node.0 }
-{
-    match scoping.reference_of(node) {
-        Some(reference) => scoping.get_reference(reference).symbol,
-        None => None,
     }
 }

@@ -3,7 +3,7 @@ ghost use Rattle.std.specs.Prelude.{◌≡◌, ◌<◌, None, OnOk, IfOk, codes,
 ghost use Rattle.std.specs.BTreeMap.{insert_entry};
 ghost use Rattle.std.specs.Ordering.{nat_cmp};
 ghost use Rattle.oxt_facts.specs.Told.{member, value_view};
-ghost use Rattle.oxt_modules.specs.Names.{declared_symbol};
+ghost use Rattle.oxt_scoping.specs.Meant.{declared_symbol};
 ghost use Rattle.oxt_scoping.specs.Scoped.{live_at};
 ghost use Rattle.oxt_names.specs.Constant.{constant_view};
 ghost use Rattle.oxt_told.specs.Source.{all_told, around_view, bare_at, bares, following_or, member_bares, member_name, member_told, members_bares, members_told, name_in, symbol_bares, symbol_told, value_of};

@@ -3,7 +3,6 @@ ghost use Rattle.std.specs.Prelude.{◌≡◌, OnOk};
 ghost use Rattle.oxt_options.specs.Facts.{is_in};
 ghost use Rattle.oxt_told.specs.Modules.{list_told, specifier_told, modules_told, specifiers_told, statement_told, statements_told};
 ghost use Rattle.oxt_told.specs.Source.{all_told, unkept_told};
-ghost use Rattle.oxt_tree.specs.Fields.{elements, named};
 ghost use Rattle.oxt_tree.specs.View.{docs_in, node_doc, part_doc};
 
 use oxt_facts::told::{Told, ToldNodes};

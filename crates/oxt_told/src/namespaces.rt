@@ -2,7 +2,6 @@
 ghost use Rattle.std.specs.Prelude.{◌≡◌, ◌<◌, ◌∷◌, [], ◌++◌, IfOk, OnOk, Some, codes, if◌then◌else◌, length, option_map, slice_get};
 ghost use Rattle.std.specs.List.{list_any};
 ghost use Rattle.oxt_facts.specs.Told.{names_view, namespace_view};
-ghost use Rattle.oxt_modules.specs.Names.{declared_symbol};
 ghost use Rattle.oxt_options.specs.Facts.{is_in};
 ghost use Rattle.oxt_told.specs.Namespaces.{base_at, declared_names, declarator_told, declarators_told, export_told, export_told_at, has_one_name, has_pattern, is_patterned, named_told, names_behind, names_exported, seat_told, node_names, namespace_of, namespace_told, tag_of, variables_told, variables_told_at, with_groups};
 ghost use Rattle.oxt_told.specs.Source.{all_told};
@@ -11,6 +10,7 @@ ghost use Rattle.oxt_tree.specs.Bound.{bound_views};
 ghost use Rattle.oxt_tree.specs.Fields.{field_of, named, text_in};
 ghost use Rattle.oxt_names.specs.Names.{name_bytes};
 ghost use Rattle.oxt_tree.specs.View.{docs_in, doc_or_nil, node_doc, part_doc};
+ghost use Rattle.oxt_scoping.specs.Meant.{declared_symbol};
 
 use crate::seat::Seat;
 use crate::symbols::{declared_group, group_of, named_symbol};

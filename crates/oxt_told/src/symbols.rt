@@ -1,9 +1,9 @@
 //! The symbols that nodes declare, and their groups.
 ghost use Rattle.std.specs.Prelude.{◌≡◌, ◌<◌, IfSome, Some, length, option_map, slice_get};
-ghost use Rattle.oxt_modules.specs.Names.{declared_symbol, symbol_in as symbol_by};
 ghost use Rattle.oxt_told.specs.Source.{around, around_view};
 ghost use Rattle.oxt_told.specs.Symbols.{first_node, group_of, named_symbol};
 ghost use Rattle.oxt_tree.specs.View.{docs_in};
+ghost use Rattle.oxt_scoping.specs.Meant.{declared_symbol, symbol_in as symbol_by};
 
 use crate::members::EnumAround;
 use oxt_grammar::field::Field;

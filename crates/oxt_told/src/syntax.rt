@@ -1,5 +1,5 @@
 //! What initializers are by their form alone.
-ghost use Rattle.std.specs.Prelude.{◌≡◌, not, ◌||◌, codes};
+ghost use Rattle.std.specs.Prelude.{◌≡◌, ◌||◌, codes};
 ghost use Rattle.std.specs.List.{list_any};
 ghost use Rattle.oxt_told.specs.Syntax.{is_calling, is_pure};
 ghost use Rattle.oxt_tree.specs.Fields.{is_kind, named};

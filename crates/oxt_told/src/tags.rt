@@ -1,5 +1,5 @@
 //! The tags of names that are made for classes and keys, and the names by which classes are called.
-ghost use Rattle.std.specs.Prelude.{◌≡◌, ◌<◌, IfOk, None, Some, codes, length, option_map, slice_get};
+ghost use Rattle.std.specs.Prelude.{◌≡◌, ◌<◌, IfOk, None, Some, length, option_map, slice_get};
 ghost use Rattle.oxt_facts.specs.Told.{made_use, use_view};
 ghost use Rattle.oxt_told.specs.Symbols.{number_in};
 ghost use Rattle.oxt_told.specs.Tags.{callee, class_symbol, class_use, group_in, is_nameless, object_use, own_use, place_of_calls, symbol_use, tag_at, tag_for};

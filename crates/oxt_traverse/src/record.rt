@@ -1,5 +1,5 @@
 //! What is recorded of a node while its parts are walked.
-ghost use Rattle.std.specs.Prelude.{◌≡◌, ◌<◌, IfOk, IfSome, OnOk, drop, length, option_map};
+ghost use Rattle.std.specs.Prelude.{◌≡◌, ◌<◌, IfOk, IfSome, OnErr, OnOk, Some, drop, length, option_map, slice_get};
 ghost use Rattle.oxt_scoping.specs.Scoped.{at_node};
 ghost use Rattle.oxt_tree.specs.Fields.{text_in};
 ghost use Rattle.oxt_names.specs.Names.{name_bytes};
@@ -34,11 +34,25 @@ fn record_of(node: &Node, ctx: &TraverseCtx) -> Result<AncestorRecord, OutOfMemo
     })
 }
 
-/// Goes into the node: it is recorded as it stands.
+/// Goes into the node: it is recorded as it stands, with the scope that it opens and its name if it is a
+/// class.
+///
+/// # Errors
+///
+/// `OutOfMemory` for want of memory alone; the context is then as it was.
 pub fn go_into(node: &Node, ctx: &mut TraverseCtx) -> Result<(), OutOfMemory>
-    ensures recorded { OnOk result (drop 1 ctx.new.ancestors ≡ ctx.old.ancestors) }
-    ensures injector { ctx.new.injector ≡ ctx.old.injector }
-    ensures declarations { ctx.new.declarations ≡ ctx.old.declarations }
+    ensures kind { OnOk result
+        (option_map (λ made. made.kind) (slice_get ctx.new.ancestors 0) ≡ Some node.now.kind) }
+    ensures number { OnOk result
+        (option_map (λ made. made.node) (slice_get ctx.new.ancestors 0) ≡ Some node.now.id) }
+    ensures scope { OnOk result (option_map (λ made. made.scope) (slice_get ctx.new.ancestors 0)
+        ≡ Some (at_node node.now.id ctx.old.scoping.opened)) }
+    ensures name { OnOk result
+        (option_map (λ made. option_map name_bytes made.class_name) (slice_get ctx.new.ancestors 0)
+        ≡ Some (class_name node.now.kind (docs_in node.now.parts.items))) }
+    ensures around { OnOk result (drop 1 ctx.new.ancestors ≡ ctx.old.ancestors) }
+    ensures rest { ctx.new ≡ record ctx.old { ancestors = ctx.new.ancestors } }
+    ensures kept { OnErr result (ctx.new ≡ ctx.old) }
 {
     let record = record_of(node, ctx)?;
     ctx.push_ancestor(record)
@@ -46,9 +60,7 @@ pub fn go_into(node: &Node, ctx: &mut TraverseCtx) -> Result<(), OutOfMemory>
 
 /// Leaves the node that was gone into last.
 pub fn go_out(ctx: &mut TraverseCtx)
-    ensures left { ctx.new.ancestors ≡ drop 1 ctx.old.ancestors }
-    ensures injector { ctx.new.injector ≡ ctx.old.injector }
-    ensures declarations { ctx.new.declarations ≡ ctx.old.declarations }
+    ensures left { ctx.new ≡ record ctx.old { ancestors = drop 1 ctx.old.ancestors } }
 {
     ctx.pop_ancestor();
 }

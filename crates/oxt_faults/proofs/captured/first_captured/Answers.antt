@@ -1,5 +1,5 @@
 -- The marks are those of the symbols that are captured.
-use Rattle.std.proofs.Common.{◌∙◌, sym, ap, None}
+use Rattle.std.proofs.Common.{◌∙◌, sym, None}
 use Rattle.oxt_options.specs.Facts.{is_in}
 use Rattle.oxt_tree.specs.View.{node_doc}
 use Rattle.oxt_faults.proofs.Symbols.{all_found}

@@ -1,4 +1,4 @@
-use Rattle.std.proofs.Common.{◌≡◌, ◌∙◌, arith, length, min}
+use Rattle.std.proofs.Common.{◌≡◌, ◌∙◌, ap, arith, length, min}
 use Rattle.std.proofs.Math.ListN.{length-set}
 use Rattle.oxt_traverse.proofs.Logs.{logged_under}
 use Rattle.oxt_tree.specs.Doc.{list, node}
@@ -35,7 +35,7 @@ walk_fields-loop-i-preserved g t c =
 
 pub walk_node-returns-clause-untouched : goal.walk_node-returns-clause-untouched
 walk_node-returns-clause-untouched g t c =
-    on_ok c.leave_node.result (λ left. node_untouched g.T.Traverse.watches _ _ _ _ _ _ _ _ _ _ c.in_ok-enter_node.ensures.untouched c.go_into.ensures.injector c.go_into.ensures.declarations c.in_ok-walk_fields.ensures.untouched c.go_out.ensures.injector c.go_out.ensures.declarations left) c.leave_node.ensures.untouched
+    on_ok c.leave_node.result (λ left. node_untouched g.T.Traverse.watches _ _ _ _ _ _ _ _ _ _ c.in_ok-enter_node.ensures.untouched (ap (λ x. x.injector) c.go_into.ensures.rest) (ap (λ x. x.declarations) c.go_into.ensures.rest) c.in_ok-walk_fields.ensures.untouched (ap (λ x. x.injector) c.go_out.ensures.left) (ap (λ x. x.declarations) c.go_out.ensures.left) left) c.leave_node.ensures.untouched
 
 pub walk_opened-returns-clause-untouched : goal.walk_opened-returns-clause-untouched
 walk_opened-returns-clause-untouched g t c =
@@ -62,7 +62,7 @@ walk_fields-returns-clause-logged g t c =
 pub walk_node-returns-clause-logged : goal.walk_node-returns-clause-logged
 walk_node-returns-clause-logged g t c =
     let w = g.T.Traverse.watches in
-    let so : IsWatched w c.args.ctx.now → IsWatched w c.go_into.new.ctx = watched_inside w _ _ _ _ _ c.in_ok-enter_node.ensures.untouched c.go_into.ensures.injector in
+    let so : IsWatched w c.args.ctx.now → IsWatched w c.go_into.new.ctx = watched_inside w _ _ _ _ _ c.in_ok-enter_node.ensures.untouched (ap (λ x. x.injector) c.go_into.ensures.rest) in
     let entered = c.in_ok-enter_node.ensures.untouched.document in
     let walked = c.in_ok-walk_fields.ensures.untouched.document in
     on_ok c.leave_node.result (λ third. node_logged (IsWatched w c.args.ctx.now) g.T.Traverse.trace (g.T.Traverse.log c.args.pass.now) (g.T.Traverse.log c.enter_node.new.pass) (g.T.Traverse.log c.walk_fields.new.pass) (g.T.Traverse.log c.leave_node.new.pass) c.args.place c.args.levels (node_doc c.args.node.now) (node_doc c.enter_node.new.node) (node_doc c.walk_fields.new.node) c.if-levels-eq0.false (λ s. entered s.watching) (λ s. walked (so s) ∙ entered s.watching) (logged_under _ _ _ _ (λ s. s.watching) c.in_ok-enter_node.ensures.logged) (logged_under _ _ _ _ so c.in_ok-walk_fields.ensures.logged) (logged_under _ _ _ _ (λ s. s.watching) third)) c.leave_node.ensures.logged
